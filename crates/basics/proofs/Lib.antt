@@ -1,0 +1,3 @@
+pub mod Bytewise
+pub mod Littles
+pub mod Tables

@@ -1,0 +1,5 @@
+pub mod Feeding
+pub mod Xors
+pub mod Crcs
+pub mod Shifting
+pub mod Entries

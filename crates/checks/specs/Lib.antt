@@ -1,0 +1,3 @@
+pub mod Check
+pub mod Crc16
+pub mod Xor

@@ -1,0 +1,5 @@
+pub mod Bits
+pub mod Decoding
+pub mod Laid
+pub mod Unique
+pub mod Judging

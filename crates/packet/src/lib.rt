@@ -1,0 +1,6 @@
+// Packets of the wire: a header, a message, and the message's check.
+pub mod fault;
+mod flags;
+pub mod header;
+pub mod measure;
+pub mod read;
