@@ -2,5 +2,6 @@
 pub mod fault;
 mod flags;
 pub mod header;
+pub mod law;
 pub mod measure;
 pub mod read;

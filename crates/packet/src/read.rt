@@ -8,7 +8,7 @@ ghost use Rattle.basics.specs.Little.{little};
 ghost use Rattle.packet.specs.Raw.{header-length, size, message, check-bytes};
 ghost use Rattle.packet.specs.Header.{bit, Lawful, header-bytes};
 ghost use Rattle.packet.specs.Fields.{Field-at};
-ghost use Rattle.packet.specs.Packet.{Reads, One-reading};
+ghost use Rattle.packet.specs.Packet.{Reads};
 ghost use Rattle.packet.specs.Faults.{Refused};
 ghost use Rattle.packet.specs.Measured.{Lawful-start, Measured};
 use crate::fault::PacketFault;
@@ -112,8 +112,3 @@ pub fn read_packet<'a, C: Check>(bytes: &'a [u8]) -> Result<Packet<'a>, Refusal<
     judge::<C>(bytes, extent)?;
     Ok(take_apart::<C>(bytes, extent))
 }
-
-// Bytes begin with at most one packet, and a packet has one reading.
-pub fn one_reading<C: Check>()
-    ensures { λ _. ⌜ One-reading width meaning ⌝ }
-{}
