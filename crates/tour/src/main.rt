@@ -1,6 +1,7 @@
-// Follows one recorded packet from the wire to its verdict, and then the same packet damaged, in words for those who
-// answer installers' calls.
+// Follows one recorded packet from the wire to its verdict, then the same packet damaged, and then behind a disturbance,
+// in words for those who answer installers' calls.
 mod data;
+mod receiving;
 mod report;
 mod show;
 
@@ -65,5 +66,11 @@ fn main(rt: LibcRuntime) -> io::Result<()> {
         rt,
         "The same packet with one bit of its last byte turned over"
     )?;
-    follow(&rt, &DAMAGED)
+    follow(&rt, &DAMAGED)?;
+    println!(rt, "")?;
+    println!(
+        rt,
+        "The packet on the wire, behind the header of one that was cut off"
+    )?;
+    receiving::follow(&rt, &RECORDED)
 }

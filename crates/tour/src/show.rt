@@ -44,3 +44,11 @@ pub(crate) fn layer_name(layer: Layer) -> &'static str {
         Layer::Writer => "writer",
     }
 }
+
+// The first `count` of `bytes`, or all where there are fewer.
+pub(crate) fn first(bytes: &[u8], count: usize) -> &[u8] {
+    match bytes.split_at_checked(count) {
+        Some((front, _)) => front,
+        None => bytes,
+    }
+}

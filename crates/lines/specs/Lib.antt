@@ -1,0 +1,3 @@
+pub mod Taking
+pub mod Hex
+pub mod Pairs

@@ -1,0 +1,4 @@
+// Lines: where the bytes come from.
+pub mod hex;
+pub mod line;
+pub mod memory;

@@ -1,0 +1,17 @@
+pub mod PrefixCode
+pub mod Decided
+pub mod Settled
+pub mod Points
+pub mod Same
+pub mod Limits
+pub mod Standing
+pub mod Spans
+pub mod Moves
+pub mod Choiceless
+pub mod Alive
+pub mod Ours
+pub mod Decode
+pub mod Raws
+pub mod Completing
+pub mod Verdicts
+pub mod FalseStart

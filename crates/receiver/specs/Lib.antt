@@ -1,0 +1,10 @@
+pub mod Wire
+pub mod Rules
+pub mod Numbers
+pub mod Holding
+pub mod Calls
+pub mod Runs
+pub mod Law
+pub mod Steps
+pub mod Judging
+pub mod Examples

@@ -1,0 +1,5 @@
+// Examples for the lines and the receiver.
+#[cfg(test)]
+mod receiving;
+#[cfg(test)]
+mod taking;
