@@ -1,6 +1,7 @@
 // What holds of every use of a receiver, for every check. Each call answers whether a statement holds; it does, and the
 // contract says so.
-ghost use Rattle.std.specs.Orderings.{When};
+ghost use mathlib.Core.Bool.{true};
+ghost use mathlib.Core.Path.{_≡_};
 ghost use Rattle.packet.specs.Packet.{Packet};
 ghost use Rattle.receiver.specs.Examples.{False-start};
 ghost use Rattle.receiver.specs.Law.{Law, Lively, No-choice};
@@ -9,7 +10,7 @@ use checks::check::Check;
 // Whether, for every list of calls of next and gap on a new receiver, what it took and answered is what came, in its order;
 // no packet is lost in the noise; and two receivers that go on from the same point agree.
 pub fn law_holds<C: Check>() -> bool
-    ensures { λ r. ⌜ When r (Law (Packet width meaning)) (Law (Packet width meaning) → ⊥) ⌝ }
+    ensures { λ r. ⌜ (r ≡ true) × Law (Packet width meaning) ⌝ }
 {
     law::<C>();
     true
@@ -17,7 +18,7 @@ pub fn law_holds<C: Check>() -> bool
 
 // Whether the same receiver, line and buffer always give the same answer.
 pub fn leaves_no_choice<C: Check>() -> bool
-    ensures { λ r. ⌜ When r (No-choice (Packet width meaning)) (No-choice (Packet width meaning) → ⊥) ⌝ }
+    ensures { λ r. ⌜ (r ≡ true) × No-choice (Packet width meaning) ⌝ }
 {
     no_choice::<C>();
     true
@@ -25,7 +26,7 @@ pub fn leaves_no_choice<C: Check>() -> bool
 
 // Whether a packet that comes is answered, what can become one is waited for, and each part of a packet that has come can.
 pub fn answers_packets<C: Check>() -> bool
-    ensures { λ r. ⌜ When r (Lively (Packet width meaning)) (Lively (Packet width meaning) → ⊥) ⌝ }
+    ensures { λ r. ⌜ (r ≡ true) × Lively (Packet width meaning) ⌝ }
 {
     lively::<C>();
     true
@@ -33,7 +34,7 @@ pub fn answers_packets<C: Check>() -> bool
 
 // Whether a packet behind a false start is found after a gap.
 pub fn finds_behind_false_start() -> bool
-    ensures { λ r. ⌜ When r False-start (False-start → ⊥) ⌝ }
+    ensures { λ r. ⌜ (r ≡ true) × False-start ⌝ }
 {
     false_start();
     true

@@ -4,6 +4,7 @@ mod data;
 mod receiving;
 mod report;
 mod show;
+mod values;
 
 use checks::crc16::Crc16;
 use checks::crc16::Crc16Check;
@@ -72,5 +73,8 @@ fn main(rt: LibcRuntime) -> io::Result<()> {
         rt,
         "The packet on the wire, behind the header of one that was cut off"
     )?;
-    receiving::follow(&rt, &RECORDED)
+    receiving::follow(&rt, &RECORDED)?;
+    println!(rt, "")?;
+    println!(rt, "Universal values, as messages carry them")?;
+    values::follow(&rt)
 }

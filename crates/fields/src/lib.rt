@@ -1,0 +1,3 @@
+// Numbers and texts at the front of bytes.
+pub mod number;
+pub mod part;

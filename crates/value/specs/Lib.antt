@@ -1,0 +1,9 @@
+pub mod Faults
+pub mod Kinds
+pub mod Signed
+pub mod Times
+pub mod Moments
+pub mod Values
+pub mod Readings
+pub mod Laws
+pub mod Examples

@@ -1,0 +1,3 @@
+// Tests of texts and values, tabled.
+mod characters;
+mod values;
