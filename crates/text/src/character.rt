@@ -50,7 +50,7 @@ fn at(bytes: &[u8], place: usize) -> u8
 
 // The length of the character at the front of `bytes`, or 0 where none stands there. An absent byte is taken for 0,
 // which goes on with no character.
-pub fn first_character(bytes: &[u8]) -> usize
+pub(crate) fn first_character(bytes: &[u8]) -> usize
     ensures { λ r. ⌜ First r (now (bytes .entry)) ⌝ }
 {
     if bytes.is_empty() {

@@ -10,7 +10,7 @@ pub enum Front<'a> {
     Other,
 }
 
-pub fn front_of(bytes: &[u8]) -> Front<'_>
+pub(crate) fn front_of(bytes: &[u8]) -> Front<'_>
     ensures { λ r. ⌜ Begins-with r (now (bytes .entry)) ⌝ }
 {
     if bytes.is_empty() {

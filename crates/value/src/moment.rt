@@ -68,7 +68,7 @@ fn clock_of(flag: bool, clock: Clock) -> Result<Option<Clock>, ValueFault>
 }
 
 // The time that eight bytes hold.
-pub fn time_of(bytes: &[u8; 8]) -> Result<Time, ValueFault>
+pub(crate) fn time_of(bytes: &[u8; 8]) -> Result<Time, ValueFault>
     ensures { λ r. ⌜ Cases r (λ t. Time-told t (now (bytes .entry))) (λ f. (f ≡ ValueFault.Time) × Not-time (now (bytes .entry))) ⌝ }
 {
     let Some(fields) = fields_of(bytes) else {

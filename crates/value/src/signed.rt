@@ -9,28 +9,28 @@ use fields::number::take_u16;
 use fields::number::take_u32;
 use fields::number::take_u64;
 
-pub fn take_i8(bytes: &[u8]) -> Option<(i8, &[u8])>
+pub(crate) fn take_i8(bytes: &[u8]) -> Option<(i8, &[u8])>
     ensures { λ r. ⌜ Cases r (length (now (bytes .entry)) < 1) (λ p. Signed-first 1 (p .0) (now (p .1)) (now (bytes .entry))) ⌝ }
 {
     let (number, rest) = take_u8(bytes)?;
     Some((number.cast_signed(), rest))
 }
 
-pub fn take_i16(bytes: &[u8]) -> Option<(i16, &[u8])>
+pub(crate) fn take_i16(bytes: &[u8]) -> Option<(i16, &[u8])>
     ensures { λ r. ⌜ Cases r (length (now (bytes .entry)) < 2) (λ p. Signed-first 2 (p .0) (now (p .1)) (now (bytes .entry))) ⌝ }
 {
     let (number, rest) = take_u16(bytes)?;
     Some((number.cast_signed(), rest))
 }
 
-pub fn take_i32(bytes: &[u8]) -> Option<(i32, &[u8])>
+pub(crate) fn take_i32(bytes: &[u8]) -> Option<(i32, &[u8])>
     ensures { λ r. ⌜ Cases r (length (now (bytes .entry)) < 4) (λ p. Signed-first 4 (p .0) (now (p .1)) (now (bytes .entry))) ⌝ }
 {
     let (number, rest) = take_u32(bytes)?;
     Some((number.cast_signed(), rest))
 }
 
-pub fn take_i64(bytes: &[u8]) -> Option<(i64, &[u8])>
+pub(crate) fn take_i64(bytes: &[u8]) -> Option<(i64, &[u8])>
     ensures { λ r. ⌜ Cases r (length (now (bytes .entry)) < 8) (λ p. Signed-first 8 (p .0) (now (p .1)) (now (bytes .entry))) ⌝ }
 {
     let (number, rest) = take_u64(bytes)?;
