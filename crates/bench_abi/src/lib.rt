@@ -1,4 +1,6 @@
 // What the speed comparison links: one receiver over a whole slice.
+#![tactic(auto)]
+
 use checks::check::Check;
 use checks::crc16::Crc16;
 use checks::xor::Xor;

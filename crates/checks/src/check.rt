@@ -45,16 +45,16 @@ pub trait Check {
 
 // The check of `bytes`.
 pub fn check_of<C: Check>(bytes: &[u8]) -> u32
-    ensures is { result ≡ meaning bytes.now }
-    ensures fits { result < 256 ^ width }
+    ensures is { result ≡ C.meaning bytes.now }
+    ensures fits { result < 256 ^ C.width }
 {
     C::number(register_of::<C>(bytes))
 }
 
 // The register after all of `bytes`.
 fn register_of<C: Check>(bytes: &[u8]) -> C::Register
-    ensures is { shows result ≡ meaning bytes.now }
-    ensures fits { shows result < 256 ^ width }
+    ensures is { C.shows result ≡ C.meaning bytes.now }
+    ensures fits { C.shows result < 256 ^ C.width }
 {
     let mut register = C::start();
     for byte in bytes {

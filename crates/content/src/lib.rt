@@ -1,4 +1,6 @@
 // What messages hold, by their type and direction.
+#![tactic(auto)]
+
 mod board;
 mod channel;
 pub mod message;

@@ -44,7 +44,7 @@ enum Pair {
 
 // Takes one character and, where it is a digit, the character after it.
 fn take_pair<L: Line>(text: &mut L) -> Pair
-    ensures { Paired result (waiting text.old) (waiting text.new) }
+    ensures { Paired result (L.waiting text.old) (L.waiting text.new) }
 {
     let Some(first) = text.take() else {
         return Pair::End;

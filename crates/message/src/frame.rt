@@ -72,7 +72,7 @@ impl ReadRefusal {
 
 // Reads a packet and its message. What is wrong with the packet goes before what is wrong with the message.
 pub fn read<'a, C: Check>(bytes: &'a [u8]) -> Result<Frame<'a>, ReadRefusal>
-    ensures { MatchResult result (λ f. ReadsFrame width meaning bytes.now f.header f.received.header f.received.message) (λ e. RefusedFrame width meaning bytes.now e) }
+    ensures { MatchResult result (λ f. ReadsFrame C.width C.meaning bytes.now f.header f.received.header f.received.message) (λ e. RefusedFrame C.width C.meaning bytes.now e) }
 {
     let packet = read_packet::<C>(bytes)?;
     let received = read_message(packet)?;

@@ -1,4 +1,6 @@
 // Messages of packets: the header, and the body by its type.
+#![tactic(auto)]
+
 pub mod frame;
 pub mod header;
 pub mod law;

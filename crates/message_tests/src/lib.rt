@@ -1,4 +1,6 @@
 // Examples of messages, run.
+#![tactic(auto)]
+
 #[cfg(test)]
 mod lists_tests;
 #[cfg(test)]

@@ -1,4 +1,6 @@
 // Says what the message of one recorded packet tells, in words for those who answer installers' calls.
+#![tactic(auto)]
+
 mod messages;
 mod show;
 

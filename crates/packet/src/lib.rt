@@ -1,4 +1,6 @@
 // Packets of the wire: a header, a message, and the message's check.
+#![tactic(auto)]
+
 pub mod fault;
 mod flags;
 pub mod header;

@@ -20,7 +20,7 @@ pub struct Extent {
 // Reads the header as far as its size. What it refuses stands there, or the size is cut off; whether the data are there
 // and agree with their check is not looked at.
 pub fn measure<C: Check>(bytes: &[u8]) -> Result<Extent, Refusal<PacketFault>>
-    ensures { MatchResult result (λ x. Measured width bytes.now x.header x.end) (λ e. Refused width meaning bytes.now e.fault e.place × (e.place ≤ size_place bytes.now)) }
+    ensures { MatchResult result (λ x. Measured C.width bytes.now x.header x.end) (λ e. Refused C.width C.meaning bytes.now e.fault e.place × (e.place ≤ size_place bytes.now)) }
 {
     let given = bytes.len();
     let first = byte_at(bytes, 0);

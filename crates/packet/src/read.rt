@@ -63,8 +63,8 @@ fn read_header(bytes: &[u8]) -> Header
 
 // Whether the data are all there, agree with their check, and end the bytes given.
 fn judge<C: Check>(bytes: &[u8], extent: Extent) -> Result<(), Refusal<PacketFault>>
-    requires { Measured width bytes.now extent.header extent.end }
-    ensures { MatchResult result (λ _. (length bytes.now ≡ extent.end) × (check_bytes width bytes.now ≡ little width (meaning (message width bytes.now)))) (λ e. Refused width meaning bytes.now e.fault e.place) }
+    requires { Measured C.width bytes.now extent.header extent.end }
+    ensures { MatchResult result (λ _. (length bytes.now ≡ extent.end) × (check_bytes C.width bytes.now ≡ little C.width (C.meaning (message C.width bytes.now)))) (λ e. Refused C.width C.meaning bytes.now e.fault e.place) }
 {
     let Extent { header, end } = extent;
     let given = bytes.len();
@@ -85,9 +85,9 @@ fn judge<C: Check>(bytes: &[u8], extent: Extent) -> Result<(), Refusal<PacketFau
 
 // The parts of bytes that were judged.
 fn take_apart<'a, C: Check>(bytes: &'a [u8], extent: Extent) -> Packet<'a>
-    requires measured { Measured width bytes.now extent.header extent.end }
-    requires whole { (length bytes.now ≡ extent.end) × (check_bytes width bytes.now ≡ little width (meaning (message width bytes.now))) }
-    ensures { Reads width meaning bytes.now result.header result.message.now }
+    requires measured { Measured C.width bytes.now extent.header extent.end }
+    requires whole { (length bytes.now ≡ extent.end) × (check_bytes C.width bytes.now ≡ little C.width (C.meaning (message C.width bytes.now))) }
+    ensures { Reads C.width C.meaning bytes.now result.header result.message.now }
 {
     let Extent { header, end } = extent;
     let w = C::bytes();
@@ -99,7 +99,7 @@ fn take_apart<'a, C: Check>(bytes: &'a [u8], extent: Extent) -> Packet<'a>
 
 // Reads a packet: its header and its message, or what is wrong with the bytes and where.
 pub fn read_packet<'a, C: Check>(bytes: &'a [u8]) -> Result<Packet<'a>, Refusal<PacketFault>>
-    ensures { MatchResult result (λ k. Reads width meaning bytes.now k.header k.message.now) (λ e. Refused width meaning bytes.now e.fault e.place) }
+    ensures { MatchResult result (λ k. Reads C.width C.meaning bytes.now k.header k.message.now) (λ e. Refused C.width C.meaning bytes.now e.fault e.place) }
 {
     let extent = measure::<C>(bytes)?;
     judge::<C>(bytes, extent)?;

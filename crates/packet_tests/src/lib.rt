@@ -1,4 +1,6 @@
 // Examples of checks and packets.
+#![tactic(auto)]
+
 #[cfg(test)]
 mod checks_tests;
 #[cfg(test)]

@@ -19,7 +19,7 @@ pub enum Verdict {
 
 // Whether the bytes begin with a packet, or could.
 pub fn judge<C: Check>(held: &[u8]) -> Verdict
-    ensures { Judged (Packet width meaning) held.now result }
+    ensures { Judged (Packet C.width C.meaning) held.now result }
 {
     match measure::<C>(held) {
         Ok(extent) => weigh::<C>(held, extent, C::bytes()),
@@ -33,9 +33,9 @@ pub fn judge<C: Check>(held: &[u8]) -> Verdict
 // Compares the bytes of the check that are there, behind a header that was measured. The check is computed only once
 // its first byte is there, so at most as often for a packet as the check has bytes.
 fn weigh<C: Check>(held: &[u8], extent: Extent, w: usize) -> Verdict
-    requires wide { w ≡ width }
-    requires measured { Measured width held.now extent.header extent.end }
-    ensures { Judged (Packet width meaning) held.now result }
+    requires wide { w ≡ C.width }
+    requires measured { Measured C.width held.now extent.header extent.end }
+    ensures { Judged (Packet C.width C.meaning) held.now result }
 {
     let Extent { header, end } = extent;
     let given = held.len();

@@ -10,7 +10,7 @@ use checks::check::Check;
 // Whether, for every list of calls of next and gap on a new receiver, what it took and answered is what came, in its order;
 // no packet is lost in the noise; and two receivers that go on from the same point agree.
 pub fn law_holds<C: Check>() -> bool
-    ensures { (result ≡ true) × Law (Packet width meaning) }
+    ensures { (result ≡ true) × Law (Packet C.width C.meaning) }
 {
     law::<C>();
     true
@@ -18,7 +18,7 @@ pub fn law_holds<C: Check>() -> bool
 
 // Whether the same receiver, line and buffer always give the same answer.
 pub fn leaves_no_choice<C: Check>() -> bool
-    ensures { (result ≡ true) × NoChoice (Packet width meaning) }
+    ensures { (result ≡ true) × NoChoice (Packet C.width C.meaning) }
 {
     no_choice::<C>();
     true
@@ -26,7 +26,7 @@ pub fn leaves_no_choice<C: Check>() -> bool
 
 // Whether a packet that comes is answered, what can become one is waited for, and each part of a packet that has come can.
 pub fn answers_packets<C: Check>() -> bool
-    ensures { (result ≡ true) × Lively (Packet width meaning) }
+    ensures { (result ≡ true) × Lively (Packet C.width C.meaning) }
 {
     lively::<C>();
     true
@@ -41,15 +41,15 @@ pub fn finds_behind_false_start() -> bool
 }
 
 fn law<C: Check>()
-    ensures { Law (Packet width meaning) }
+    ensures { Law (Packet C.width C.meaning) }
 {}
 
 fn no_choice<C: Check>()
-    ensures { NoChoice (Packet width meaning) }
+    ensures { NoChoice (Packet C.width C.meaning) }
 {}
 
 fn lively<C: Check>()
-    ensures { Lively (Packet width meaning) }
+    ensures { Lively (Packet C.width C.meaning) }
 {}
 
 fn false_start()

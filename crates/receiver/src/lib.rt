@@ -1,4 +1,6 @@
 // The receiver: packets out of a stream of bytes.
+#![tactic(auto)]
+
 pub mod answer;
 pub mod fault;
 mod held;

@@ -1,4 +1,6 @@
 // Examples for the lines and the receiver.
+#![tactic(auto)]
+
 #[cfg(test)]
 mod receiving;
 #[cfg(test)]

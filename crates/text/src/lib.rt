@@ -1,4 +1,6 @@
 // Texts in UTF-8.
+#![tactic(auto)]
+
 ghost use Rattle.std.specs.Prelude.{MatchBool};
 ghost use Rattle.text.specs.Texts.{IsText};
 

@@ -1,5 +1,7 @@
 // Follows one recorded packet from the wire to its verdict, then the same packet damaged, and then behind a disturbance,
 // in words for those who answer installers' calls.
+#![tactic(auto)]
+
 mod data;
 mod receiving;
 mod report;

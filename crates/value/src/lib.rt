@@ -1,4 +1,6 @@
 // Universal values: a header byte with a type, and the data of that type.
+#![tactic(auto)]
+
 pub mod example;
 pub mod fault;
 pub mod kind;

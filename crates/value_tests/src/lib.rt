@@ -1,3 +1,5 @@
 // Tests of texts and values, tabled.
+#![tactic(auto)]
+
 mod characters;
 mod values;

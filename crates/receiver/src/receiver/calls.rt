@@ -54,8 +54,8 @@ impl<C: Check> Receiver<C> {
         line: &mut L,
         buffer: &mut [u8],
     ) -> Result<Answer, ReceiverFault>
-        ensures called { Called (Packet width meaning) (state_of self.old) (waiting line.old) buffer.old result (state_of self.new) (waiting line.new) buffer.new }
-        ensures few { length (waiting line.old) ≤ 1287 + length (waiting line.new) }
+        ensures called { Called (Packet C.width C.meaning) (state_of self.old) (L.waiting line.old) buffer.old result (state_of self.new) (L.waiting line.new) buffer.new }
+        ensures few { length (L.waiting line.old) ≤ 1287 + length (L.waiting line.new) }
     {
         if buffer.len() < LONGEST {
             return Err(ReceiverFault::ShortBuffer);
@@ -66,8 +66,8 @@ impl<C: Check> Receiver<C> {
     // Repeats the rules until one answers.
     fn repeat<L: Line>(&mut self, line: &mut L, buffer: &mut [u8]) -> Answer
         requires { 263 ≤ length buffer.old }
-        ensures answered { Answered (Packet width meaning) 0 (state_of self.old) (waiting line.old) buffer.old result (state_of self.new) (waiting line.new) buffer.new }
-        ensures few { length (waiting line.old) ≤ 1287 + length (waiting line.new) }
+        ensures answered { Answered (Packet C.width C.meaning) 0 (state_of self.old) (L.waiting line.old) buffer.old result (state_of self.new) (L.waiting line.new) buffer.new }
+        ensures few { length (L.waiting line.old) ≤ 1287 + length (L.waiting line.new) }
     {
         let mut n = 0;
         loop {
@@ -83,7 +83,7 @@ impl<C: Check> Receiver<C> {
     fn step<L: Line>(&mut self, line: &mut L, buffer: &mut [u8], n: usize) -> Step
         requires count { n ≤ 1024 }
         requires room { 263 ≤ length buffer.old }
-        ensures { Stepped (Packet width meaning) n (state_of self.old) (waiting line.old) buffer.old result (state_of self.new) (waiting line.new) buffer.new }
+        ensures { Stepped (Packet C.width C.meaning) n (state_of self.old) (L.waiting line.old) buffer.old result (state_of self.new) (L.waiting line.new) buffer.new }
     {
         if n == MOST_NOISE {
             return Step::Done(Answer::Noise(n));
@@ -114,8 +114,8 @@ impl<C: Check> Receiver<C> {
     fn shed(&mut self, n: usize) -> Step
         requires closed { self.old.«open» ≡ false }
         requires count { n < 1024 }
-        requires possible { Possible (Packet width meaning) (held (state_of self.old)) }
-        ensures { (line buffer : List ℕ) → Stepped (Packet width meaning) n (state_of self.old) line buffer result (state_of self.new) line buffer }
+        requires possible { Possible (Packet C.width C.meaning) (held (state_of self.old)) }
+        ensures { (line buffer : List ℕ) → Stepped (Packet C.width C.meaning) n (state_of self.old) line buffer result (state_of self.new) line buffer }
     {
         if self.held() > 0 {
             self.held.drop_first();
@@ -133,9 +133,9 @@ impl<C: Check> Receiver<C> {
     fn take_one<L: Line>(&mut self, line: &mut L, n: usize) -> Step
         requires opened { self.old.«open» ≡ true }
         requires count { n < 1024 }
-        requires possible { Possible (Packet width meaning) (held (state_of self.old)) }
+        requires possible { Possible (Packet C.width C.meaning) (held (state_of self.old)) }
         requires room { length (held (state_of self.old)) < 263 }
-        ensures { (buffer : List ℕ) → Stepped (Packet width meaning) n (state_of self.old) (waiting line.old) buffer result (state_of self.new) (waiting line.new) buffer }
+        ensures { (buffer : List ℕ) → Stepped (Packet C.width C.meaning) n (state_of self.old) (L.waiting line.old) buffer result (state_of self.new) (L.waiting line.new) buffer }
     {
         match line.take() {
             Some(byte) => {

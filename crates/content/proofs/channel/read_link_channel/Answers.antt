@@ -4,15 +4,15 @@ use Rattle.body.specs.Tails.{variables}
 use Rattle.body.proofs.Chains.{fails, filled, nexts, refuse, refuse_end, start}
 use Rattle.content.proofs.channel.read_link_channel.Goals as goal
 
-pub returns-in-err-channel : goal.returns-in-err-channel
-returns-in-err-channel c =
-    let p = err_from_is_err_and c.from-residual.result c.from-residual.ensures.1 in
-    rw (p.1, p.2) (refuse variables (fails _ _ c.in-err-channel.ensures (start _ _)))
+pub returns-in_err-channel : goal.returns-in_err-channel
+returns-in_err-channel c =
+    let p = err_from_is_err_and c.from_residual.result c.from_residual.ensures.1 in
+    rw (p.1, p.2) (refuse variables (fails _ _ c.in_err-channel.ensures (start _ _)))
 
-pub returns-in-err-variables : goal.returns-in-err-variables
-returns-in-err-variables c =
-    let p = err_from_is_err_and c.from-residual-in-err-variables.result c.from-residual-in-err-variables.ensures.1 in
-    rw (p.1, p.2) (refuse_end variables (nexts c.in-ok-channel.ensures (start _ _)) c.in-err-variables.ensures)
+pub returns-in_err-variables : goal.returns-in_err-variables
+returns-in_err-variables c =
+    let p = err_from_is_err_and c.from_residual-in_err-variables.result c.from_residual-in_err-variables.ensures.1 in
+    rw (p.1, p.2) (refuse_end variables (nexts c.in_ok-channel.ensures (start _ _)) c.in_err-variables.ensures)
 
 pub returns : goal.returns
-returns c = record { items = _; rest = _; row = refl; holds = (refl, c.in-ok-variables.ensures.1); filled = filled variables (nexts c.in-ok-channel.ensures (start _ _)) c.in-ok-variables.ensures.0 }
+returns c = record { items = _; rest = _; row = refl; holds = (refl, c.in_ok-variables.ensures.1); filled = filled variables (nexts c.in_ok-channel.ensures (start _ _)) c.in_ok-variables.ensures.0 }

@@ -1,10 +1,10 @@
 use Rattle.lines.proofs.Hexes.{skip_one, two_digits, digit_alone}
 use Rattle.lines.proofs.hex.take_pair.Goals as goal
 
-pub returns-in-default-digit : goal.returns-in-default-digit
-returns-in-default-digit g c =
+pub returns-in_default-digit : goal.returns-in_default-digit
+returns-in_default-digit g c =
     let w = g.L.Line.waiting in
-    skip_one (w c.args.text.now) (w c.take.new.self) _ c.in-Some.ensures c.in-default-digit.ensures.value
+    skip_one (w c.args.text.now) (w c.take.new.self) _ c.in-Some.ensures c.in_default-digit.ensures.value
 
 pub returns-in-Some-digit-2 : goal.returns-in-Some-digit-2
 returns-in-Some-digit-2 g c =

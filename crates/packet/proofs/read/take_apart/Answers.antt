@@ -9,7 +9,7 @@ pub returns : goal.returns
 returns g c =
     let m = c.requires.measured in
     let p = c.args.bytes.now in
-    let z : size p ≤ 255 = (let f = c.type-inv.bytes (size_place p) in omega arith) in
-    subst (λ x. Reads g.C.Check.width g.C.Check.meaning p c.read-header.result x) (sym (message_part m _ c.bytes-w.ensures))
-    (reading g.C.Check.meaning m _ c.read-header.ensures.lawful (bytes_from_get_or p (λ i h. let f = c.type-inv.bytes i in omega arith)) z
-    (c.requires.whole.0 ∙ m.end_is) c.requires.whole.1 c.read-header.ensures.written)
+    let z : size p ≤ 255 = (let f = c.type_inv.bytes (size_place p) in omega arith) in
+    subst (λ x. Reads g.C.Check.width g.C.Check.meaning p c.read_header.result x) (sym (message_part m _ c.bytes-w.ensures))
+    (reading g.C.Check.meaning m _ c.read_header.ensures.lawful (bytes_from_get_or p (λ i h. let f = c.type_inv.bytes i in omega arith)) z
+    (c.requires.whole.0 ∙ m.end_is) c.requires.whole.1 c.read_header.ensures.written)

@@ -9,11 +9,11 @@ pub returns : goal.returns
 returns c =
     let xs : List ℕ = c.args.bytes.now in
     let h : ℕ = c.in-Some.header.now in
-    let k = c.in-ok-kind.kind in
+    let k = c.in_ok-kind.kind in
     let rest : List ℕ = c.in-Some.rest.now in
     let split : xs ≡ h ∷ rest = c.in-Some.ensures.cases.0 in
-    let low : get_or xs 0 0 < 256 = omega (arith, c.type-inv.bytes 0) in
+    let low : get_or xs 0 0 < 256 = omega (arith, c.type_inv.bytes 0) in
     let first : get_or xs 0 0 ≡ h = ap (λ (t : List ℕ). get_or t 0 0) split in
-    let header : h ≡ header_byte 1 k = omega (arith, c.in-ok-kind.ensures) in
+    let header : h ≡ header_byte 1 k = omega (arith, c.in_ok-kind.ensures) in
     let e : xs ≡ header_byte 1 k ∷ rest = split ∙ ap (λ (x : ℕ). x ∷ rest) header in
-    MatchResult-weaker c.read-data.result c.read-data.ensures (λ p r. subst (Reads _ _) (sym e) r) (λ f w. subst (Refused f) (sym e) (refused_data f k rest w))
+    MatchResult-weaker c.read_data.result c.read_data.ensures (λ p r. subst (Reads _ _) (sym e) r) (λ f w. subst (Refused f) (sym e) (refused_data f k rest w))

@@ -4,4 +4,4 @@ use Rattle.body.proofs.Chains.{held_one}
 use Rattle.body.proofs.held.U16Held.take.Goals as goal
 
 pub returns : goal.returns
-returns c = held_one (number 2) _ (λ n. whole 2 n) _ (λ _. refl) c.take-u16.ensures
+returns c = held_one (number 2) _ (λ n. whole 2 n) _ (λ _. refl) c.take_u16.ensures

@@ -4,4 +4,4 @@ use Rattle.body.proofs.Chains.{held_one}
 use Rattle.body.proofs.held.U32Held.take.Goals as goal
 
 pub returns : goal.returns
-returns c = held_one (number 4) _ (λ n. whole 4 n) _ (λ _. refl) c.take-u32.ensures
+returns c = held_one (number 4) _ (λ n. whole 4 n) _ (λ _. refl) c.take_u32.ensures

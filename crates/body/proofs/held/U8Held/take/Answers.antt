@@ -4,4 +4,4 @@ use Rattle.body.proofs.Chains.{held_one}
 use Rattle.body.proofs.held.U8Held.take.Goals as goal
 
 pub returns : goal.returns
-returns c = held_one (number 1) _ (λ n. whole 1 n) _ (λ _. refl) c.take-u8.ensures
+returns c = held_one (number 1) _ (λ n. whole 1 n) _ (λ _. refl) c.take_u8.ensures

@@ -5,4 +5,4 @@ use Rattle.body.proofs.Chains.{held_one}
 use Rattle.body.proofs.held.ValueHeld.take.Goals as goal
 
 pub returns : goal.returns
-returns c = held_one value _ (λ v. universal (meaning v)) _ (λ _. refl) c.take-value.ensures
+returns c = held_one value _ (λ v. universal (meaning v)) _ (λ _. refl) c.take_value.ensures

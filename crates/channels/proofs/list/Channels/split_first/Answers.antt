@@ -6,8 +6,8 @@ use Rattle.channels.proofs.list.Channels.split_first.Goals as goal
 pub returns-then-self-eq0 : goal.returns-then-self-eq0
 returns-then-self-eq0 c = λ es l. none_listed c.args.self.layout.count (entry_of c.args.self.layout) es (omega arith) l.stand
 
-pub returns-in-default : goal.returns-in-default
-returns-in-default c = λ es l. absurd (failed_listed c.args.self.layout.count (entry_of c.args.self.layout) _ _ es (λ e. omega arith) c.in-default.ensures l.stand l.bytes)
+pub returns-in_default : goal.returns-in_default
+returns-in_default c = λ es l. absurd (failed_listed c.args.self.layout.count (entry_of c.args.self.layout) _ _ es (λ e. omega arith) c.in_default.ensures l.stand l.bytes)
 
 pub returns : goal.returns
 returns c = λ es l.

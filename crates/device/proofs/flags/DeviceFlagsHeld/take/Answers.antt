@@ -5,4 +5,4 @@ use Rattle.device.specs.Flags.{device_byte}
 use Rattle.device.proofs.flags.DeviceFlagsHeld.take.Goals as goal
 
 pub returns : goal.returns
-returns c = held_one (word 1 7 1) _ (λ g. whole 1 (device_byte g)) _ (λ _. refl) c.take-device-flags.ensures
+returns c = held_one (word 1 7 1) _ (λ g. whole 1 (device_byte g)) _ (λ _. refl) c.take_device_flags.ensures

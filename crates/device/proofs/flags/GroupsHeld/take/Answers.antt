@@ -5,4 +5,4 @@ use Rattle.device.specs.Flags.{groups_byte}
 use Rattle.device.proofs.flags.GroupsHeld.take.Goals as goal
 
 pub returns : goal.returns
-returns c = held_one (word 1 4 4) _ (λ g. whole 1 (groups_byte g)) _ (λ _. refl) c.take-groups.ensures
+returns c = held_one (word 1 4 4) _ (λ g. whole 1 (groups_byte g)) _ (λ _. refl) c.take_groups.ensures

@@ -5,4 +5,4 @@ use Rattle.device.specs.Flags.{options_byte}
 use Rattle.device.proofs.flags.ListOptionsHeld.take.Goals as goal
 
 pub returns : goal.returns
-returns c = held_one (word 1 0 6) _ (λ g. whole 1 (options_byte g)) _ (λ _. refl) c.take-list-options.ensures
+returns c = held_one (word 1 0 6) _ (λ g. whole 1 (options_byte g)) _ (λ _. refl) c.take_list_options.ensures

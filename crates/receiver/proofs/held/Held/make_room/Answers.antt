@@ -7,6 +7,6 @@ returns-then-end-eq-ROOM c =
     let h = c.args.self.now in
     let n = listed_length h in
     record {
-      list = ap (λ (x : List ℕ). take h.len x) c.copy-within.ensures.after ∙ span_moved h.bytes h.start h.len (omega arith);
+      list = ap (λ (x : List ℕ). take h.len x) c.copy_within.ensures.after ∙ span_moved h.bytes h.start h.len (omega arith);
       room = omega arith;
     }

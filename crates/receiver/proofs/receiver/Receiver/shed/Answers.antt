@@ -8,7 +8,7 @@ use Rattle.receiver.proofs.receiver.Receiver.shed.Goals as goal
 pub returns-then-held-gt0 : goal.returns-then-held-gt0
 returns-then-held-gt0 g c = λ line buffer.
     shed_at (Packet g.C.Check.width g.C.Check.meaning) c.args.n _ (listed c.args.self.now.held) _ line buffer c.requires.closed c.requires.count (omega arith)
-    c.requires.possible.0 c.drop-first.ensures
+    c.requires.possible.0 c.drop_first.ensures
 
 pub returns-then-n-gt0 : goal.returns-then-n-gt0
 returns-then-n-gt0 g c = λ line buffer.
