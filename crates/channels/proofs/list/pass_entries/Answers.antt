@@ -8,12 +8,12 @@ pub loop-i-init : goal.loop-i-init
 loop-i-init c = passed_none c.args.layout.count (entry_of c.args.layout) _
 
 pub loop-i-preserved : goal.loop-i-preserved
-loop-i-preserved c = passed_more c.args.layout.count c.loop-i.-i (entry_of c.args.layout) _ _ _ _ c.loop-i-test.true c.loop-i.invariant c.in_ok-after.ensures
+loop-i-preserved c = passed_more c.args.layout.count c.loop-i._i (entry_of c.args.layout) _ _ _ _ c.loop-i-test.true c.loop-i.invariant c.in_ok-after.ensures
 
 pub returns-in_err-after : goal.returns-in_err-after
 returns-in_err-after c =
     let p = err_from_is_err_and c.from_residual.result c.from_residual.ensures.1 in
-    rw (p.1, p.2) (failed_more c.args.layout.count c.loop-i.-i (entry_of c.args.layout) _ _ _ c.loop-i-test.true c.loop-i.invariant c.in_err-after.ensures)
+    rw (p.1, p.2) (failed_more c.args.layout.count c.loop-i._i (entry_of c.args.layout) _ _ _ c.loop-i-test.true c.loop-i.invariant c.in_err-after.ensures)
 
 pub returns : goal.returns
-returns c = passed_all c.args.layout.count c.loop-i.-i (entry_of c.args.layout) _ _ (omega arith) c.loop-i.invariant
+returns c = passed_all c.args.layout.count c.loop-i._i (entry_of c.args.layout) _ _ (omega arith) c.loop-i.invariant
