@@ -215,11 +215,11 @@ mod tests {
     #[test]
     fn what_follows_is_handed_back(rt: HostRuntime) -> Result<(), Fail> {
         let (_, rest) = read_value(&[0x83, 0xFF, 0x01, 0x02])?;
-        assert_eq!(rt; rest, &[0x01, 0x02]);
+        assert_eq!(rt; rest, [0x01, 0x02].as_slice());
         let (_, rest) = read_value(&[0x0C, 0x8C])?;
-        assert_eq!(rt; rest, &[0x8C]);
+        assert_eq!(rt; rest, [0x8C].as_slice());
         let (_, rest) = read_value(&[0x8C, 0x01, 0x00, 0x41, 0xFF])?;
-        assert_eq!(rt; rest, &[0xFF]);
+        assert_eq!(rt; rest, [0xFF].as_slice());
         Ok(())
     }
 
