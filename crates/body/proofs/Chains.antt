@@ -1,7 +1,7 @@
 -- Fields taken one after another.
 use Rattle.std.proofs.Common.{◌≡◌, ℕ, ◌-◌, List, [], ◌∷◌, ◌++◌, length, Result, sym, refl, ap, ◌∙◌, subst, append_assoc, append-nil, arith, MatchResult}
 use Rattle.std.proofs.lemmas.Result.{MatchResult-weaker}
-use Rattle.body.specs.Fields.{Field, Item, bytes, all_bytes, Fits, asked, Stand}
+use Rattle.body.specs.Fields.{Field, Item, bytes, all_bytes, asked, Stand}
 use Rattle.body.specs.Bodies.{Filled, Refuses}
 use Rattle.body.specs.Steps.{Takes, Denies, Took, Failed}
 use Rattle.body.specs.Tails.{Tail, nothing, Fills, TailWrong}

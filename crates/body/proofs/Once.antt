@@ -1,9 +1,7 @@
 -- What fields hold is settled by the bytes, and a field that is wrong holds nothing.
-use Rattle.std.proofs.Common.{◌≡◌, ℕ, ◌+◌, ◌%◌, ◌^◌, ◌<◌, ◌≤◌, Bool, ◌⊎◌, List, [], ◌∷◌, ◌++◌, length, sym, refl, ap, ◌∙◌, subst, inl, inr, append_assoc, arith}
+use Rattle.std.proofs.Common.{◌≡◌, ℕ, ◌+◌, ◌^◌, ◌<◌, List, [], ◌∷◌, ◌++◌, length, sym, refl, ap, ◌∙◌, subst, inl, inr, append_assoc, arith}
 use Rattle.basics.specs.Little.{little}
-use Rattle.fields.specs.Numbers.{NumberFirst}
 use Rattle.fields.proofs.Fronts.{little_once, number_once, number_long, part_once, part_whole, part_text}
-use Rattle.value.specs.Values.{Val}
 use Rattle.value.proofs.Uniqueness.{one_reading}
 use Rattle.body.specs.Fields.{Field, word, listing, text, value, Item, whole, letters, universal, bytes, all_bytes, bits, Fits, FitsWord, asked, Stand}
 use Rattle.body.specs.Wrongs.{Wrong, BitsSet}

@@ -1,6 +1,6 @@
 -- The exclusive or of all bytes is a check of one byte.
 -- Assumes nothing.
-use Rattle.std.specs.Prelude.{◌≡◌, ℕ, ◌<◌, List, [], ◌∷◌, bit_xor, refl}
+use Rattle.std.specs.Prelude.{◌≡◌, ℕ, ◌<◌, List, [], ◌∷◌, bit_xor}
 use Rattle.std.proofs.Common.{sym, ◌∙◌, lit<}
 use Rattle.std.specs.Int.Bits.{xor_assoc, xor_zero_r, xor_zero_l}
 use Rattle.std.proofs.lemmas.Nat.{xor_lt}

@@ -1,5 +1,5 @@
 -- Packets and their messages together, under a check of w bytes that gives a message its number.
-use Rattle.std.specs.Prelude.{◌≡◌, ℕ, List}
+use Rattle.std.specs.Prelude.{ℕ, List}
 use Rattle.basics.specs.declared.refusal.Layer.{Layer}
 use Rattle.body.specs.Faults as message
 use Rattle.content.specs.declared.message.Message.{Message}

@@ -1,8 +1,7 @@
 -- What holds of all messages.
 use Rattle.std.specs.Prelude.{◌≡◌, ℕ, Bool, List}
 use Rattle.body.specs.Fields.{Item}
-use Rattle.body.specs.declared.fault.MessageRefusal.{MessageRefusal}
-use Rattle.message.specs.Messages.{Written, RefusedAt}
+use Rattle.message.specs.Messages.{Written}
 use Rattle.message.specs.declared.header.MessageHeader.{MessageHeader}
 
 -- bytes are the writing of one message at most

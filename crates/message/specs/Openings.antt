@@ -1,5 +1,5 @@
 -- Headers at the front of a message, and what is wrong with them.
-use Rattle.std.specs.Prelude.{◌≡◌, ℕ, ◌-◌, ◌/◌, ◌%◌, ◌<◌, ◌≤◌, Bool, false, List, ◌++◌, length, Option, ◌≢◌, slice_index}
+use Rattle.std.specs.Prelude.{◌≡◌, ℕ, ◌-◌, ◌/◌, ◌%◌, ◌<◌, ◌≤◌, Bool, List, ◌++◌, length, Option, ◌≢◌, slice_index}
 use Rattle.body.specs.Fields.{flag}
 use Rattle.body.specs.Places.{place_of}
 use Rattle.body.specs.declared.cursor.Body.{Body}

@@ -1,7 +1,6 @@
 -- A header's fields, read one after the other, write out to the bytes that they were read from.
 -- Assumes nothing.
-use Rattle.std.proofs.Common.{◌≡◌, ℕ, ◌+◌, ◌/◌, ◌%◌, ◌<◌, ◌≤◌, Bool, List, [], ◌∷◌, ◌++◌, length, get_or, drop, Some, None, Option, sym, refl, ap, ◌∙◌, subst, append_assoc, arith}
-use mathlib.Core.List.{head-eq_of_cons-eq}
+use Rattle.std.proofs.Common.{◌≡◌, ℕ, ◌+◌, ◌<◌, ◌≤◌, Bool, List, [], ◌∷◌, ◌++◌, length, get_or, drop, Some, None, Option, sym, refl, ap, ◌∙◌, subst, append_assoc, arith}
 use Rattle.std.proofs.lemmas.List.{drop_more, get_or-drop}
 use Rattle.packet.specs.declared.header.Header.{Header}
 use Rattle.packet.specs.Raw.{byte, flag, version, cipher, header_length, size_place, size}

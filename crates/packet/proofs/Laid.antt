@@ -1,13 +1,13 @@
 -- Where the parts of a packet stand among its bytes; nothing is wrong with a packet.
 -- Assumes nothing.
-use Rattle.std.proofs.Common.{◌≡◌, ℕ, ◌+◌, ◌-◌, ◌*◌, ◌/◌, ◌%◌, ◌<◌, ◌≤◌, Bool, true, false, List, [], ◌∷◌, ◌++◌, length, get_or, take, drop, Some, None, Option, sym, refl, ap, ◌∙◌, subst, append_assoc, arith, length-append}
+use Rattle.std.proofs.Common.{◌≡◌, ℕ, ◌+◌, ◌-◌, ◌/◌, ◌%◌, ◌≤◌, Bool, true, false, List, ◌∷◌, ◌++◌, length, take, drop, Some, None, Option, sym, refl, ap, ◌∙◌, subst, arith, length-append}
 use Rattle.std.proofs.lemmas.List.{take_at, drop_at, take_all, drop-drop}
 use Rattle.basics.specs.Little.{little}
 use Rattle.basics.proofs.Littles.{length_little}
 use Rattle.packet.specs.declared.header.Header.{Header}
 use Rattle.packet.specs.declared.fault.PacketFault.{PacketFault}
 use Rattle.packet.specs.declared.fault.PacketFault.TheVariants.{CutShort, FirstByte, Version, Cipher, Route, Size, Check, LeftOver}
-use Rattle.packet.specs.Raw.{byte, flag, header_length, size_place, size, end, check_place, message, check_bytes}
+use Rattle.packet.specs.Raw.{byte, flag, header_length, size, end, check_place, message, check_bytes}
 use Rattle.packet.specs.Header.{bit, present, field, Below, Lawful, first_byte, second_byte, header_bytes}
 use Rattle.packet.specs.Packet.{Reads, Packet}
 use Rattle.packet.specs.Faults.{Opens, Wrong}

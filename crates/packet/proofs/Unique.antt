@@ -1,12 +1,12 @@
 -- A list begins with at most one packet, and that has one reading.
 -- Assumes nothing.
-use Rattle.std.proofs.Common.{◌≡◌, ℕ, ◌+◌, ◌/◌, ◌%◌, Bool, true, false, List, [], ◌∷◌, ◌++◌, length, take, Some, None, Option, sym, refl, ap, ◌∙◌, subst, append_assoc, arith}
+use Rattle.std.proofs.Common.{◌≡◌, ℕ, ◌+◌, ◌/◌, ◌%◌, Bool, true, false, List, ◌++◌, length, take, Some, None, Option, sym, refl, ap, ◌∙◌, append_assoc, arith}
 use mathlib.Core.List.{head-eq_of_cons-eq, tail-eq_of_cons-eq}
 use Rattle.std.proofs.lemmas.List.{take_at}
 use Rattle.basics.specs.Little.{little}
 use Rattle.packet.specs.declared.header.Header.{Header}
-use Rattle.packet.specs.Header.{bit, present, field, Lawful, first_byte, second_byte, header_bytes}
-use Rattle.packet.specs.Packet.{Reads, OneReading}
+use Rattle.packet.specs.Header.{bit, present, field, Lawful, header_bytes}
+use Rattle.packet.specs.Packet.{OneReading}
 use Rattle.packet.specs.Raw.{flag}
 use Rattle.packet.proofs.Laid.{flags_of}
 

@@ -1,5 +1,5 @@
 -- What bytes say of themselves as a packet, lawful or not. A byte that is not there counts as 0.
-use Rattle.std.specs.Prelude.{ℕ, ◌+◌, ◌-◌, ◌/◌, ◌%◌, ◌^◌, List, length, take, drop, slice_index}
+use Rattle.std.specs.Prelude.{ℕ, ◌+◌, ◌-◌, ◌/◌, ◌%◌, ◌^◌, List, take, drop, slice_index}
 
 -- the bit k of a byte, 0 or 1
 abbrev pub flag : ℕ → ℕ → ℕ

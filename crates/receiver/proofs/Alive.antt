@@ -1,7 +1,7 @@
 -- The rules are not empty: an open receiver that holds nothing takes a packet that waits on the line, and answers it or waits for
 -- the rest of it.
 -- Assumes nothing.
-use Rattle.std.proofs.Common.{◌≡◌, ℕ, ◌+◌, List, [], ◌∷◌, ◌++◌, length, drop, sym, refl, ap, ◌∙◌, subst, append_assoc, append-nil, arith, length-append}
+use Rattle.std.proofs.Common.{◌≡◌, ℕ, List, [], ◌∷◌, ◌++◌, length, drop, sym, refl, ap, ◌∙◌, subst, append_assoc, append-nil, arith, length-append}
 use Rattle.receiver.specs.Rules.{State, Open, Said, packet, waiting, Rules, rule_2_packet, rule_5_takes, rule_5_waits}
 use Rattle.receiver.specs.Law.{Received, Awaited, FrontsPossible}
 use Rattle.receiver.proofs.PrefixCode.{PrefixCode, beyond, possible_from}

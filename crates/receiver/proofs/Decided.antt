@@ -1,6 +1,6 @@
 -- A log, read from its front, by the parts that stand for it: what is settled for good, and what is left.
 -- Assumes nothing.
-use Rattle.std.proofs.Common.{◌≡◌, ℕ, ◌+◌, List, [], ◌∷◌, ◌++◌, sym, ap, ◌∙◌, subst, append_assoc}
+use Rattle.std.proofs.Common.{◌≡◌, ℕ, List, [], ◌∷◌, ◌++◌, sym, ap, ◌∙◌, subst, append_assoc}
 use Rattle.receiver.specs.Wire.{Event, took, silence, tooks, bytes, Begins}
 use Rattle.receiver.specs.Runs.{Part, noisy, framed, Told, then_held, after_gap, then_noise, then_packet}
 

@@ -1,6 +1,6 @@
 -- What leaves the line, how much is held, and how much one call takes.
 -- Assumes nothing.
-use Rattle.std.proofs.Common.{◌≡◌, ℕ, ◌+◌, ◌-◌, ◌≤◌, List, [], ◌∷◌, ◌++◌, length, refl, ap, arith, length-append}
+use Rattle.std.proofs.Common.{◌≡◌, ℕ, ◌+◌, ◌≤◌, List, [], ◌∷◌, ◌++◌, length, refl, ap, arith, length-append}
 use Rattle.receiver.specs.Wire.{Event}
 use Rattle.receiver.specs.Rules.{Said, State, state, held, Rules, rule_1, rule_2_noise, rule_2_packet, rule_3_noise, rule_3_opens, rule_4_closed, rule_4_open, rule_5_takes, rule_5_noise, rule_5_waits}
 use Rattle.receiver.specs.Runs.{Run, made, gap, next, refused}

@@ -1,6 +1,6 @@
 -- A settled log, cut at a point that no packet crosses.
 -- Assumes nothing.
-use Rattle.std.proofs.Common.{◌≡◌, ℕ, suc, ◌+◌, ◌-◌, ◌≤◌, List, [], ◌∷◌, ◌++◌, length, sym, refl, ap, ◌∙◌, subst, subst₂, le_of_suc-le-suc, not-suc-le-zero, arith, length-append}
+use Rattle.std.proofs.Common.{◌≡◌, ℕ, suc, ◌+◌, ◌≤◌, List, [], ◌∷◌, ◌++◌, length, sym, refl, ap, ◌∙◌, subst, subst₂, le_of_suc-le-suc, not-suc-le-zero, arith, length-append}
 use mathlib.Core.List.{nil≢cons, head-eq_of_cons-eq, tail-eq_of_cons-eq}
 use Rattle.receiver.specs.Wire.{Event, took, silence, tooks, bytes}
 use Rattle.receiver.specs.Runs.{Part, noisy, framed, size}

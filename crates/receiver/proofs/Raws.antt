@@ -1,6 +1,6 @@
 -- What two lists say of themselves as packets, where they have the same bytes.
 -- Assumes nothing.
-use Rattle.std.proofs.Common.{◌≡◌, ℕ, ◌+◌, ◌-◌, ◌/◌, ◌%◌, ◌<◌, ◌≤◌, List, ◌++◌, length, get_or, take, drop, sym, refl, ap, ◌∙◌, subst, arith, length-drop, length-take}
+use Rattle.std.proofs.Common.{◌≡◌, ℕ, ◌+◌, ◌/◌, ◌%◌, ◌<◌, ◌≤◌, List, ◌++◌, length, get_or, take, drop, sym, refl, ap, ◌∙◌, subst, arith, length-drop, length-take}
 use Rattle.std.proofs.lemmas.List.{get_or_append_left, get_or-take, get_or-drop, ext_get_or}
 use Rattle.packet.specs.Raw.{byte, flag, header_length, size_place, size, end}
 use Rattle.packet.specs.Faults.{Opens}

@@ -1,6 +1,6 @@
 -- Two settled logs with the same bytes, and gaps between the same bytes, are settled alike.
 -- Assumes nothing.
-use Rattle.std.proofs.Common.{◌≡◌, ℕ, ◌+◌, ◌-◌, Bool, false, T, List, [], ◌∷◌, ◌++◌, sym, refl, ap, ◌∙◌, subst, append-nil, not-suc-le-zero}
+use Rattle.std.proofs.Common.{◌≡◌, ℕ, Bool, false, T, List, [], ◌∷◌, ◌++◌, sym, refl, ap, ◌∙◌, subst, append-nil, not-suc-le-zero}
 use mathlib.Core.List.{nil≢cons, head-eq_of_cons-eq, tail-eq_of_cons-eq, append_cancel_left}
 use Rattle.receiver.specs.Wire.{Event, took, silence, tooks, bytes, stretch, byte_later, laid}
 use Rattle.receiver.specs.Runs.{Part, noisy, framed}

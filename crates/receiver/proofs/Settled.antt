@@ -1,6 +1,6 @@
 -- Each rule settles what it says, and so does every list of calls.
 -- Assumes nothing.
-use Rattle.std.proofs.Common.{◌≡◌, ℕ, zero, suc, ◌+◌, true, false, List, [], ◌∷◌, ◌++◌, replicate, sym, refl, ap, ◌∙◌, subst, append_assoc, append-nil}
+use Rattle.std.proofs.Common.{◌≡◌, ℕ, zero, suc, true, false, List, [], ◌∷◌, ◌++◌, replicate, sym, refl, ap, ◌∙◌, subst, append_assoc, append-nil}
 use Rattle.receiver.specs.Wire.{Event, took, silence, tooks, bytes, stretch, Whole, Possible}
 use Rattle.receiver.specs.Rules.{Said, noise, State, state, Open, Closed, held, holding, Rules, rule_1, rule_2_noise, rule_2_packet, rule_3_noise, rule_3_opens, rule_4_closed, rule_4_open, rule_5_takes, rule_5_noise, rule_5_waits}
 use Rattle.receiver.specs.Runs.{Part, noisy, framed, part, parts, Run, made, gap, next, refused}

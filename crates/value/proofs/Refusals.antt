@@ -1,5 +1,5 @@
 -- A value that is there has no fault, and what data are refused with.
-use Rattle.std.proofs.Common.{◌≡◌, ℕ, ◌+◌, ◌<◌, List, ◌∷◌, ◌++◌, sym, refl, ◌∙◌, subst, inl, inr, arith}
+use Rattle.std.proofs.Common.{◌≡◌, ℕ, ◌<◌, List, ◌∷◌, ◌++◌, sym, refl, ◌∙◌, subst, inl, inr, arith}
 use Rattle.fields.proofs.Fronts.{number_long, part_whole, part_text}
 use Rattle.fields.specs.Parts.{PartNoText}
 use Rattle.value.specs.Faults.{fault_number}

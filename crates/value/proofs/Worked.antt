@@ -8,7 +8,6 @@ use Rattle.value.specs.Readings.{NoTime}
 use Rattle.value.specs.Times.{LawfulTime}
 use Rattle.value.specs.declared.fault.ValueFault.TheVariants as fault
 use Rattle.value.specs.declared.kind.Kind.TheVariants as kind
-use Rattle.value.specs.declared.time.Time.{Time}
 use Rattle.value.proofs.Moments.{time_in, time_back}
 use Rattle.value.proofs.Refusals.{refused_data}
 

@@ -1,5 +1,5 @@
 use Rattle.std.proofs.lemmas.Result.{err_from_is_err_and}
-use Rattle.body.proofs.Chains.{fail, fail_last, fails, last, next, nexts, start, whole}
+use Rattle.body.proofs.Chains.{fail_last, fails, last, nexts, start, whole}
 use Rattle.channels.proofs.entry.take_entry.Goals as goal
 
 pub returns-in_err-id : goal.returns-in_err-id

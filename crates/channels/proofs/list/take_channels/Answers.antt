@@ -1,4 +1,3 @@
-use Rattle.std.proofs.Common.{refl}
 use Rattle.std.proofs.lemmas.Result.{err_from_is_err_and}
 use Rattle.body.specs.Tails.{nothing}
 use Rattle.body.proofs.Chains.{fail, fail_last, filled, last, refuse, refuse_end, start}

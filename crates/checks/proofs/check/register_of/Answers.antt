@@ -1,4 +1,4 @@
-use Rattle.std.proofs.Common.{◌≡◌, ℕ, ◌^◌, ◌<◌, sym, ap, ◌∙◌, subst, arith, take_all}
+use Rattle.std.proofs.Common.{◌≡◌, ◌^◌, ◌<◌, sym, ap, ◌∙◌, subst, arith, take_all}
 use Rattle.basics.specs.Bytes.{Bytes}
 use Rattle.basics.proofs.Bytewise.{bytes_from_get_or}
 use Rattle.checks.specs.Check.{fed}

@@ -1,4 +1,4 @@
-use Rattle.std.proofs.Common.{◌/◌, ◌%◌, ◌^◌, ◌<◌, eqb, ap, ◌∙◌, mod-lt, arith}
+use Rattle.std.proofs.Common.{◌/◌, ◌%◌, ◌^◌, eqb, ap, ◌∙◌, mod-lt, arith}
 use lib.Bits.{and_mask}
 use Rattle.packet.specs.Header.{bit}
 use Rattle.packet.proofs.Bits.{bit_eqb}

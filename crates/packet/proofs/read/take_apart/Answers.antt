@@ -1,4 +1,4 @@
-use Rattle.std.proofs.Common.{◌≡◌, ◌<◌, ◌≤◌, sym, ◌∙◌, subst, arith}
+use Rattle.std.proofs.Common.{◌≤◌, sym, ◌∙◌, subst, arith}
 use Rattle.basics.proofs.Bytewise.{bytes_from_get_or}
 use Rattle.packet.specs.Raw.{size, size_place}
 use Rattle.packet.specs.Packet.{Reads}
