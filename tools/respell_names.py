@@ -18,7 +18,7 @@ WORD = r"[^\s(){}\[\].,;:λ`\"|]+"
 DECLARED = re.compile(r"^\s*(?:(?:abbrev|unfoldable|pub|record|data|ruleset)\s+)*(" + WORD + r")\s+(?:\([^\n]*\)\s*)?:(?!=)[^\n]*", re.M)
 # a name that a word of the old library stood in
 OLDER = {"bytes-from-getD": "bytes_from_get_or"}
-CODE = re.compile(r"//[^\n]*|\"(?:[^\"\\]|\\.)*\"|[A-Za-z][\w']*(?:-[\w']+)+")
+CODE = re.compile(r"//[^\n]*|\"(?:[^\"\\]|\\.)*\"|[A-Za-z][\w'-]*[\w']")
 CLAUSES = re.compile(r"--[^\n]*|" + WORD)
 QUOTED = re.compile(r"`[^`\n]+`")
 
@@ -45,7 +45,7 @@ def respelled(name):
     if name in OLDER:
         return OLDER[name]
     if name[0].isupper():
-        return "".join(part[:1].upper() + part[1:] for part in name.split("-"))
+        return "".join(part[:1].upper() + part[1:] for part in re.split("[-_]", name))
     return name.replace("-", "_")
 
 
@@ -54,7 +54,7 @@ def declared():
     for path in files(".antt"):
         for m in DECLARED.finditer(read(path)):
             name = m.group(1)
-            if "-" in name and re.match(r"[A-Za-z]", name) and " goal." not in m.group(0):
+            if re.match(r"[A-Za-z]\S*-|[A-Z]\S*_", name) and " goal." not in m.group(0):
                 found[name] = respelled(name)
     return found
 

@@ -22,7 +22,7 @@ pub record FitsBits (d : Date) (c : Clock) : Type 0 where
   pub millisecond : c.millisecond < 2 ^ 10
 
 -- the bytes xs hold the fields f
-pub record Laid_out (f : Fields) (xs : List ℕ) : Type 0 where
+pub record LaidOut (f : Fields) (xs : List ℕ) : Type 0 where
   pub fits : FitsBits f.date f.clock
   pub bytes : xs ≡ layout (bit f.dated) (bit f.timed) f.date f.clock
 

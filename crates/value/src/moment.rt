@@ -1,6 +1,6 @@
 // Times in eight bytes.
 ghost use Rattle.std.specs.Prelude.{◌≡◌, MatchOption, MatchResult};
-ghost use Rattle.value.specs.Moments.{Laid_out, NoLayout, DateTold, NoDate, ClockTold, NoClock, TimeTold, NotTime};
+ghost use Rattle.value.specs.Moments.{LaidOut, NoLayout, DateTold, NoDate, ClockTold, NoClock, TimeTold, NotTime};
 
 use crate::fault::ValueFault;
 use crate::time::{Clock, Date, Time};
@@ -16,7 +16,7 @@ struct Fields {
 
 // The fields of eight bytes, or nothing where a reserved bit is set or two flags of one name differ.
 fn fields_of(bytes: &[u8; 8]) -> Option<Fields>
-    ensures { MatchOption result (NoLayout bytes.now) (λ f. Laid_out f bytes.now) }
+    ensures { MatchOption result (NoLayout bytes.now) (λ f. LaidOut f bytes.now) }
 {
     let [b0, b1, b2, b3, b4, b5, b6, b7] = *bytes;
     if b3 > 1 || b0 % 4 != b4 % 4 {
