@@ -4,13 +4,13 @@
 set -eu
 here=$(cd "$(dirname "$0")" && pwd)
 root=$(cd "$here/.." && pwd)
-kit=$(dirname "$(dirname "$(rt doc)")")
+kit=$(dirname "$(rt doc)")
 out="$root/target/bench"
 bytes=${1:-200000}
 
-(cd "$root" && rt staticlib bench_abi >/dev/null)
+(cd "$root/crates/bench_abi" && rt lib >/dev/null)
 mkdir -p "$out"
-rustc -C opt-level=3 -L "$root/target/staticlib" -C link-arg="$kit/lib/librattle_c.a" -o "$out/bench" "$here/bench.rs"
+rustc -C opt-level=3 -L "$root/crates/bench_abi/out" -C link-arg="$kit/c/libos_c.a" -C link-arg="$kit/c/liblibc_c.a" -o "$out/bench" "$here/bench.rs"
 
 count() {
     valgrind --tool=callgrind --callgrind-out-file="$out/callgrind.out" --toggle-collect="$2" "$out/bench" "$1" "$3" "$bytes" 2>"$out/log" >"$out/told.$1"

@@ -3,7 +3,7 @@
 ghost use Rattle.std.specs.Prelude.{◌≡◌};
 ghost use Rattle.checks.specs.Crc16.{crc16_of, after_byte, shifts};
 ghost use Rattle.checks.specs.Crcs.{crc16_fits, crc16_feeding};
-ghost use Rattle.std.proofs.Common.{rules};
+ghost use Rattle.std.proofs.Common.{lit≤};
 
 use crate::check::{Check, check_of};
 
@@ -50,7 +50,7 @@ impl Check for Crc16 {
 
     ghost shows = { λ r. r };
 
-    ghost bounds = { Prim.search rules };
+    ghost bounds = { (lit≤ tt, lit≤ tt) };
 
     ghost fits = { λ bs h. crc16_fits bs h };
 

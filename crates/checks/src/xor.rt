@@ -2,7 +2,7 @@
 ghost use Rattle.std.specs.Prelude.{◌≡◌, bit_xor};
 ghost use Rattle.checks.specs.Xor.{xor_of};
 ghost use Rattle.checks.specs.Xors.{xor_fits, xor_feeding};
-ghost use Rattle.std.proofs.Common.{rules};
+ghost use Rattle.std.proofs.Common.{lit≤};
 
 use crate::check::{Check, check_of};
 
@@ -23,7 +23,7 @@ impl Check for Xor {
 
     ghost shows = { λ r. r };
 
-    ghost bounds = { Prim.search rules };
+    ghost bounds = { (lit≤ tt, lit≤ tt) };
 
     ghost fits = { λ bs h. xor_fits bs h };
 
