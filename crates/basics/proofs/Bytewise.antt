@@ -1,5 +1,6 @@
 -- Lists of bytes.
 -- Assumes nothing.
+use Rattle.std.specs.Prelude.{slice_index}
 use Rattle.std.proofs.Common.{ℕ, zero, suc, ◌<◌, List, [], ◌∷◌, ◌++◌, length, get_or, take, drop, arith}
 use Rattle.basics.specs.Bytes.{Bytes}
 
@@ -20,3 +21,8 @@ pub bytes_drop : (n : ℕ) (xs : List ℕ) → Bytes xs → Bytes (drop n xs)
 bytes_drop zero xs b = b
 bytes_drop (suc n) [] b = tt
 bytes_drop (suc n) (x ∷ xs) b = bytes_drop n xs b.1
+
+pub byte_below : (xs : List ℕ) → Bytes xs → (i : ℕ) → slice_index xs i < 256
+byte_below [] b i = omega arith
+byte_below (x ∷ xs) b zero = b.0
+byte_below (x ∷ xs) b (suc i) = byte_below xs b.1 i

@@ -1,7 +1,6 @@
 -- Numbers in bytes, the lowest first.
 -- Assumes nothing.
-use Rattle.std.proofs.Common.{◌≡◌, ℕ, zero, suc, ◌/◌, ◌%◌, ◌≤◌, List, ◌∷◌, length, take, sym, refl, ap, ◌∙◌, arith}
-use mathlib.Core.List.{head-eq_of_cons-eq, tail-eq_of_cons-eq}
+use Rattle.std.proofs.Common.{◌≡◌, ℕ, zero, suc, ◌/◌, ◌%◌, ◌≤◌, List, ◌∷◌, length, take, refl, ap, arith}
 use Rattle.std.proofs.lemmas.Nat.{mod_below}
 use Rattle.basics.specs.Bytes.{Bytes}
 use Rattle.basics.specs.Little.{little}
@@ -23,12 +22,3 @@ take_little (suc k) (suc w) n l = ap (λ (x : List ℕ). (n % 256) ∷ x) (take_
 -- these are the lowest bytes of n, as many as there are
 abbrev pub Lowest : List ℕ → ℕ → Type 0
 Lowest bs n = bs ≡ little (length bs) n
-
-pub lowest_head : (b : ℕ) (bs : List ℕ) (n : ℕ) → Lowest (b ∷ bs) n → b ≡ n % 256
-lowest_head b bs n e = head-eq_of_cons-eq e
-
-pub lowest_tail : (b : ℕ) (bs : List ℕ) (n q : ℕ) → q ≡ n / 256 → Lowest (b ∷ bs) n → Lowest bs q
-lowest_tail b bs n q f e = tail-eq_of_cons-eq e ∙ ap (little (length bs)) (sym f)
-
-pub lowest_cons : (b : ℕ) (bs : List ℕ) (n q : ℕ) → b ≡ n % 256 → q ≡ n / 256 → Lowest bs q → Lowest (b ∷ bs) n
-lowest_cons b bs n q h f e = cc

@@ -1,10 +1,10 @@
 // Numbers as the wire has them: in bytes, the lowest first.
-ghost use Rattle.std.specs.Prelude.{◌≡◌, ◌/◌, ◌%◌, length, MatchBool, ◌≢◌};
+ghost use Rattle.std.specs.Prelude.{◌≡◌, ◌/◌, ◌%◌, ◌↔◌, length, IsTrue};
 ghost use Rattle.basics.specs.Little.{little};
 
 // Whether `bytes` are the lowest bytes of `number`, as many as there are.
 pub fn are_lowest_bytes(bytes: &[u8], number: u32) -> bool
-    ensures { MatchBool result (bytes.now ≡ little (length bytes.now) number) (bytes.now ≢ little (length bytes.now) number) }
+    ensures { IsTrue result ↔ (bytes.now ≡ little (length bytes.now) number) }
 {
     let mut rest = number;
     for byte in bytes {

@@ -30,6 +30,7 @@ fn receive_all<C: Check>(bytes: &[u8]) -> u64 {
             Ok(Answer::Packet(length)) => told = told.wrapping_mul(31).wrapping_add(length as u64),
             Ok(Answer::Noise(count)) => told = told.wrapping_mul(37).wrapping_add(count as u64),
             Ok(Answer::Waiting) => return told,
+            // a number, since what is called from outside hands out no Result
             Err(_) => return 0,
         }
     }

@@ -1,13 +1,18 @@
 -- Fields taken one after another.
-use Rattle.std.proofs.Common.{◌≡◌, ℕ, ◌-◌, List, [], ◌∷◌, ◌++◌, length, Result, sym, refl, ap, ◌∙◌, subst, append_assoc, append-nil, arith, MatchResult}
+use Rattle.std.proofs.Common.{◌≡◌, ℕ, ◌-◌, List, [], ◌∷◌, ◌++◌, length, Ok, Err, Result, sym, refl, ap, ◌∙◌, subst, append_assoc, append-nil, MatchResult, IsErrAnd}
 use Rattle.std.proofs.lemmas.Result.{MatchResult-weaker}
 use Rattle.body.specs.Fields.{Field, Item, bytes, all_bytes, asked, Stand}
-use Rattle.body.specs.Bodies.{Filled, Refuses}
+use Rattle.body.specs.Bodies.{Refuses}
 use Rattle.body.specs.Steps.{Takes, Denies, Took, Failed}
-use Rattle.body.specs.Tails.{Tail, nothing, Fills, TailWrong}
+use Rattle.body.specs.Tails.{Tail, TailWrong}
 use Rattle.body.specs.Places.{place_of}
 use Rattle.body.specs.declared.cursor.Body.{Body}
 use Rattle.body.specs.declared.fault.MessageRefusal.{MessageRefusal}
+
+-- an exit of a `?` answers the refusal that it met
+pub exits : {T : Type 0} (P : T → Type 0) (Q : MessageRefusal → Type 0) (r : Result T MessageRefusal) (e : MessageRefusal) → IsErrAnd r (λ y. y ≡ e) → Q e → MatchResult r P Q
+exits P Q (Ok x) e h q = absurd h
+exits P Q (Err y) e h q = subst Q (sym h) q
 
 pub all_bytes_append : (is js : List Item) → all_bytes (is ++ js) ≡ all_bytes is ++ all_bytes js
 all_bytes_append [] js = refl
@@ -79,10 +84,6 @@ next {fs} {b} {c} {d} {is} {f} {i} {left} s t = record {
   ends = t.ends ∙ s.ends;
 }
 
--- the next field is refused
-pub fail : {fs : List Field} {b c : Body} {is : List Item} {f : Field} {left : List Field} {r : MessageRefusal} → Sofar fs b is (f ∷ left) c → Denies f c r → Failed fs b r
-fail {left} {r} s d = fails left r (denied r d) s
-
 -- so is the body
 pub refuse : {fs : List Field} {b : Body} {r : MessageRefusal} (tail : Tail) → Failed fs b r → Refuses fs tail b r
 refuse tail f = record { before = f.before; left = f.field ∷ f.left; rest = f.rest; stand = f.stand; stands = f.stands; wrong = f.wrong; placed = f.placed }
@@ -99,10 +100,6 @@ refuse_end {c} {is} tail s w = record {
   placed = w.1 ∙ ap (λ (n : ℕ). n - length c.rest.now) s.ends;
 }
 
--- the body is read
-pub filled : {fs : List Field} {b c : Body} {is : List Item} (tail : Tail) → Sofar fs b is [] c → Fills tail c.rest.now → Filled fs tail is c.rest.now b.rest.now
-filled tail s h = record { stand = s.stand; fills = h; stands = s.stands }
-
 -- the fields that are left, and no more
 pub last : {fs : List Field} {b c d : Body} {is js : List Item} {gs : List Field} → Took gs js c d → Sofar fs b is gs c → Sofar fs b (is ++ js) [] d
 last {fs} {b} {c} {is} {gs} t s = nexts t (subst (λ (x : List Field). Sofar fs b is x c) (sym (append-nil gs)) s)
@@ -113,11 +110,3 @@ fail_last {fs} {b} {c} {is} {gs} r t s = fails [] r t (subst (λ (x : List Field
 -- a call that takes one field takes it as the only one
 pub held_one : {X : Type 0} (f : Field) (b : Body) (i : X → Item) (r : Result (X × Body) MessageRefusal) → ((x : X) → asked f (i x) ≡ []) → MatchResult r (λ p. Takes f (i p.0) b p.1) (λ e. Denies f b e) → MatchResult r (λ p. Took (f ∷ []) (i p.0 ∷ []) b p.1) (λ e. Failed (f ∷ []) b e)
 held_one f b i r a h = MatchResult-weaker r h (λ p t. one (a p.0) t) (λ e d. denied e d)
-
-no_bytes : (xs : List ℕ) → length xs ≡ 0 → xs ≡ []
-no_bytes [] h = refl
-no_bytes (x ∷ xs) h = absurd (omega arith)
-
--- and nothing is left
-pub filled_whole : {fs : List Field} {b c : Body} {is : List Item} → Sofar fs b is [] c → length c.rest.now ≡ 0 → Filled fs nothing is [] b.rest.now
-filled_whole {c} {is} s h = record { stand = s.stand; fills = refl; stands = s.stands ∙ ap (λ (x : List ℕ). all_bytes is ++ x) (no_bytes c.rest.now h) }

@@ -2,6 +2,8 @@
 use Rattle.std.specs.Prelude.{ℕ}
 use Rattle.basics.specs.declared.refusal.Layer.{Layer}
 use Rattle.basics.specs.declared.refusal.Layer.TheVariants as layer
+use Rattle.fields.specs.declared.part.TextFault.{TextFault}
+use Rattle.fields.specs.declared.part.TextFault.TheVariants as text
 use Rattle.value.specs.Faults as value
 use Rattle.body.specs.declared.fault.MessageFault.{MessageFault}
 use Rattle.body.specs.declared.fault.MessageFault.TheVariants as fault
@@ -29,3 +31,8 @@ fault_layer fault.LeftOver = layer.Message
 fault_layer fault.Text = layer.Message
 fault_layer fault.Variables = layer.Message
 fault_layer (fault.Value f) = value.fault_layer f
+
+-- a text's fault, as a message's
+abbrev pub fault_of_text : TextFault → MessageFault
+fault_of_text text.Cut = fault.Cut
+fault_of_text text.NoText = fault.Text

@@ -1,5 +1,6 @@
 -- The fields of a body: what each may hold, and how that is written.
-use Rattle.std.specs.Prelude.{◌≡◌, ℕ, zero, suc, ◌/◌, ◌%◌, ◌^◌, ◌<◌, Bool, true, false, List, [], ◌∷◌, ◌++◌, length, Some, None, Option}
+use Rattle.std.specs.Prelude.{◌≡◌, ℕ, zero, suc, ◌^◌, ◌<◌, Bool, List, [], ◌∷◌, ◌++◌, length, Some, None, Option}
+use Rattle.basics.specs.Bits.{bits, bit}
 use Rattle.basics.specs.Little.{little}
 use Rattle.fields.specs.Parts.{counted_part}
 use Rattle.text.specs.Texts.{IsText}
@@ -32,10 +33,6 @@ bytes (universal v) = written v
 abbrev pub all_bytes : List Item → List ℕ
 all_bytes [] = []
 all_bytes (i ∷ is) = bytes i ++ all_bytes is
-
--- so many bits of n from the bit `from` on, as a number
-abbrev pub bits : ℕ → ℕ → ℕ → ℕ
-bits from count n = n / 2 ^ from % 2 ^ count
 
 -- a number fits its bytes, and its reserved bits are 0
 pub record FitsWord (width from count n : ℕ) : Type 0 where
@@ -71,14 +68,10 @@ abbrev pub items_if : {X : Type 0} → (X → List Item) → Option X → List I
 items_if items None = []
 items_if items (Some x) = items x
 
-abbrev pub flag : Bool → ℕ
-flag true = 1
-flag false = 0
-
 -- an entry of a list with the flags DA and NN: an id; without NN, a name; with DA, a sub-device, a function and a group;
 -- and a value in a list that has values
 abbrev pub entry : Bool → ℕ → ℕ → List Field
-entry valued DA NN = number 4 ∷ (unless NN (text ∷ []) ++ (when DA (number 2 ∷ number 1 ∷ number 1 ∷ []) ++ when (flag valued) (value ∷ [])))
+entry valued DA NN = number 4 ∷ (unless NN (text ∷ []) ++ (when DA (number 2 ∷ number 1 ∷ number 1 ∷ []) ++ when (bit valued) (value ∷ [])))
 
 abbrev pub times : ℕ → List Field → List Field
 times zero fs = []

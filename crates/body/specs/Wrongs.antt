@@ -3,7 +3,8 @@ use Rattle.std.specs.Prelude.{◌≡◌, ℕ, ◌<◌, List, length}
 use Rattle.fields.specs.Numbers.{NumberFirst}
 use Rattle.fields.specs.Parts.{PartCut, PartNoText}
 use Rattle.value.specs.Readings.{Refused}
-use Rattle.body.specs.Fields.{Field, word, listing, text, value, bits}
+use Rattle.basics.specs.Bits.{bits}
+use Rattle.body.specs.Fields.{Field, word, listing, text, value}
 use Rattle.body.specs.declared.fault.MessageFault.{MessageFault}
 use Rattle.body.specs.declared.fault.MessageFault.TheVariants as fault
 

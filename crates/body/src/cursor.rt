@@ -16,7 +16,7 @@ impl<'a> Body<'a> {
     {
         Body {
             rest: bytes,
-            end: start as usize + bytes.len(),
+            end: usize::from(start) + bytes.len(),
         }
     }
 }

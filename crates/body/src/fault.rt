@@ -1,9 +1,11 @@
 // What can be wrong with a message.
 ghost use Rattle.std.specs.Prelude.{◌≡◌};
-ghost use Rattle.body.specs.Faults.{fault_number, fault_layer};
+ghost use Rattle.body.specs.Faults.{fault_number, fault_layer, fault_of_text};
 ghost use Rattle.body.specs.declared.fault.MessageFault.TheVariants.{Value as OfValue};
 
-use basics::refusal::{Layer, Refusal};
+use basics::refusal::{Fault, Layer, Refusal};
+use fields::part::TextFault;
+use std::fmt;
 use value::fault::ValueFault;
 
 #[derive(Clone, Copy, PartialEq, Eq, Debug)]
@@ -20,11 +22,25 @@ pub enum MessageFault {
     Value(ValueFault),
 }
 
-impl MessageFault {
-    // The number by which the fault is told.
-    pub fn number(self) -> u8
-        ensures { result ≡ fault_number self }
-    {
+// A text's fault, as a message's.
+impl From<TextFault> for MessageFault {
+    ghost from_gives = { λ t m. m ≡ fault_of_text t };
+
+    fn from(fault: TextFault) -> MessageFault {
+        match fault {
+            TextFault::Cut => MessageFault::Cut,
+            TextFault::NoText => MessageFault::Text,
+        }
+    }
+}
+
+impl Fault for MessageFault {
+    ghost code = { fault_number };
+
+    ghost told_by = { fault_layer };
+
+    // A case that holds a value's fault can't have a number as its value, so each case is told here.
+    fn number(self) -> u8 {
         match self {
             MessageFault::Cipher => 20,
             MessageFault::Version => 21,
@@ -39,10 +55,7 @@ impl MessageFault {
         }
     }
 
-    // The layer that refuses for it.
-    pub fn layer(self) -> Layer
-        ensures { result ≡ fault_layer self }
-    {
+    fn layer(self) -> Layer {
         match self {
             MessageFault::Value(fault) => fault.layer(),
             _ => Layer::Message,
@@ -56,6 +69,14 @@ impl MessageFault {
 pub struct MessageRefusal {
     pub fault: MessageFault,
     pub place: usize,
+}
+
+// Told as every refusal is.
+impl fmt::Display for MessageRefusal {
+    fn fmt<W: fmt::Write>(&self, f: &mut fmt::Formatter<W>) -> fmt::Result {
+        let refusal = Refusal::at(self.place, self.fault);
+        write!(f, "{refusal}")
+    }
 }
 
 // A value's refusal goes up as it is: the same fault at the same place.

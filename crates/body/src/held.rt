@@ -2,7 +2,8 @@
 ghost use Rattle.std.specs.Prelude.{◌≡◌, List, [], ◌∷◌, ◌++◌, MatchResult};
 ghost use Rattle.value.specs.Values.{meaning};
 ghost use Rattle.body.specs.Bodies.{Filled, Refuses};
-ghost use Rattle.body.specs.Fields.{Field, Item, number, text, value, whole, letters, universal, flag, when, items_if};
+ghost use Rattle.basics.specs.Bits.{bit};
+ghost use Rattle.body.specs.Fields.{Field, Item, number, text, value, whole, letters, universal, when, items_if};
 ghost use Rattle.body.specs.Steps.{Took, Failed};
 ghost use Rattle.body.specs.Tails.{nothing};
 
@@ -24,13 +25,14 @@ pub trait Held<'a>: Copy {
         ensures { MatchResult result (λ p. Took fields (items p.0) body.entry p.1) (λ e. Failed fields body.entry e) };
 }
 
+// Numbers have an impl each: one for every `Number` would overlap with those below.
 impl<'a> Held<'a> for u8 {
     ghost fields = { number 1 ∷ [] };
 
     ghost items = { λ n. whole 1 n ∷ [] };
 
     fn take(body: Body<'a>) -> Result<(u8, Body<'a>), MessageRefusal> {
-        body.take_u8()
+        body.take_number()
     }
 }
 
@@ -40,7 +42,7 @@ impl<'a> Held<'a> for u16 {
     ghost items = { λ n. whole 2 n ∷ [] };
 
     fn take(body: Body<'a>) -> Result<(u16, Body<'a>), MessageRefusal> {
-        body.take_u16()
+        body.take_number()
     }
 }
 
@@ -50,7 +52,7 @@ impl<'a> Held<'a> for u32 {
     ghost items = { λ n. whole 4 n ∷ [] };
 
     fn take(body: Body<'a>) -> Result<(u32, Body<'a>), MessageRefusal> {
-        body.take_u32()
+        body.take_number()
     }
 }
 
@@ -74,7 +76,7 @@ impl<'a> Held<'a> for Value<'a> {
     }
 }
 
-// One after the other.
+// One after the other. More of them are pairs in pairs, so that one impl serves all lengths.
 impl<'a, A: Held<'a>, B: Held<'a>> Held<'a> for (A, B) {
     ghost fields = { A.Held.fields ++ B.Held.fields };
 
@@ -92,7 +94,7 @@ pub fn take_if<'a, H: Held<'a>>(
     there: bool,
     body: Body<'a>,
 ) -> Result<(Option<H>, Body<'a>), MessageRefusal>
-    ensures { MatchResult result (λ p. Took (when (flag there) H.Held.fields) (items_if H.Held.items p.0) body.entry p.1) (λ e. Failed (when (flag there) H.Held.fields) body.entry e) }
+    ensures { MatchResult result (λ p. Took (when (bit there) H.Held.fields) (items_if H.Held.items p.0) body.entry p.1) (λ e. Failed (when (bit there) H.Held.fields) body.entry e) }
 {
     if !there {
         return Ok((None, body));
@@ -103,12 +105,6 @@ pub fn take_if<'a, H: Held<'a>>(
 
 // Reads a body that holds this and nothing else.
 pub fn read_whole<'a, H: Held<'a>>(body: Body<'a>) -> Result<H, MessageRefusal>
-    ensures { MatchResult result (λ h. Filled H.Held.fields nothing (H.Held.items h) [] body.entry.rest.now) (λ e. Refuses H.Held.fields nothing body.entry e) }
-{
-    take_all(body)
-}
-
-fn take_all<'a, H: Held<'a>>(body: Body<'a>) -> Result<H, MessageRefusal>
     ensures { MatchResult result (λ h. Filled H.Held.fields nothing (H.Held.items h) [] body.entry.rest.now) (λ e. Refuses H.Held.fields nothing body.entry e) }
 {
     let (held, rest) = H::take(body)?;

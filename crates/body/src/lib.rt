@@ -1,7 +1,6 @@
 // The fields of message bodies, read one after another.
 #![tactic(auto)]
 
-pub mod bits;
 pub mod cursor;
 pub mod fault;
 pub mod held;

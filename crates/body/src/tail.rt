@@ -6,7 +6,7 @@ ghost use Rattle.body.specs.Tails.{nothing, variables, Fills, TailWrong};
 
 use crate::cursor::Body;
 use crate::fault::{MessageFault, MessageRefusal};
-use fields::number::take_u16;
+use fields::number::take;
 
 // Variables, one after another in the bytes of the frame.
 #[derive(Clone, Copy)]
@@ -19,7 +19,7 @@ impl<'a> Variables<'a> {
     pub fn first(self) -> Option<(u16, Variables<'a>)>
         ensures { MatchOption result (length self.entry.bytes.now < 2) (λ p. NumberFirst 2 p.0 p.1.bytes.now self.entry.bytes.now) }
     {
-        let (variable, bytes) = take_u16(self.bytes)?;
+        let (variable, bytes) = take(self.bytes)?;
         Some((variable, Variables { bytes }))
     }
 }

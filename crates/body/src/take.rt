@@ -1,19 +1,37 @@
 // Fields at the front of a body. Each call answers what the field holds and the body after it, or refuses the field at
 // its first byte.
-ghost use Rattle.std.specs.Prelude.{◌≡◌, MatchResult};
+ghost use Rattle.std.specs.Prelude.{◌≡◌, [], ◌∷◌, MatchResult};
 ghost use Rattle.value.specs.Values.{meaning};
 ghost use Rattle.body.specs.Fields.{number, word, text, value, whole, letters, universal};
 ghost use Rattle.body.specs.Places.{place_of};
-ghost use Rattle.body.specs.Steps.{Takes, Denies};
+ghost use Rattle.body.specs.Steps.{Takes, Denies, Took, Failed};
 
-use crate::bits::bits_of;
 use crate::cursor::Body;
 use crate::fault::{MessageFault, MessageRefusal};
-use fields::number::{take_u8, take_u16, take_u32};
-use fields::part::{TextFault, take_text};
+use basics::bits::bits_of;
+use fields::number::{Number, take};
+use fields::part::take_text;
 use text::Text;
 use value::read::read_value_at;
 use value::universal::Value;
+
+// A number in which bits can be reserved: it has at most 16.
+pub trait Word: Number {
+    fn widened(self) -> u16
+        ensures { result ≡ Self.written self };
+}
+
+impl Word for u8 {
+    fn widened(self) -> u16 {
+        u16::from(self)
+    }
+}
+
+impl Word for u16 {
+    fn widened(self) -> u16 {
+        self
+    }
+}
 
 impl<'a> Body<'a> {
     // The place of the first byte that is left.
@@ -33,44 +51,23 @@ impl<'a> Body<'a> {
         }
     }
 
-    pub(crate) fn take_u8(self) -> Result<(u8, Body<'a>), MessageRefusal>
-        ensures { MatchResult result (λ p. Takes (number 1) (whole 1 p.0) self.entry p.1) (λ e. Denies (number 1) self.entry e) }
+    // A number.
+    pub(crate) fn take_number<N: Number>(self) -> Result<(N, Body<'a>), MessageRefusal>
+        ensures { MatchResult result (λ p. Took (number N.WIDTH ∷ []) (whole N.WIDTH (N.written p.0) ∷ []) self.entry p.1) (λ e. Failed (number N.WIDTH ∷ []) self.entry e) }
     {
-        let Some((number, rest)) = take_u8(self.rest) else {
-            return Err(self.refuse(MessageFault::Cut));
-        };
+        let (number, rest) = take(self.rest).ok_or(self.refuse(MessageFault::Cut))?;
         Ok((number, Body { rest, ..self }))
     }
 
-    // A byte of flags, of which `count` from the bit `from` on are reserved.
-    pub fn take_flags(self, from: u8, count: u8) -> Result<(u8, Body<'a>), MessageRefusal>
-        ensures { MatchResult result (λ p. Takes (word 1 from count) (whole 1 p.0) self.entry p.1) (λ e. Denies (word 1 from count) self.entry e) }
+    // A number of which `count` bits from the bit `from` on are reserved.
+    pub fn take_word<W: Word>(self, from: u8, count: u8) -> Result<(W, Body<'a>), MessageRefusal>
+        ensures { MatchResult result (λ p. Takes (word W.WIDTH from count) (whole W.WIDTH (W.written p.0)) self.entry p.1) (λ e. Denies (word W.WIDTH from count) self.entry e) }
     {
-        let Some((flags, rest)) = take_u8(self.rest) else {
-            return Err(self.refuse(MessageFault::Cut));
-        };
-        if bits_of(flags as u16, from, count) != 0 {
+        let (word, rest) = take::<W>(self.rest).ok_or(self.refuse(MessageFault::Cut))?;
+        if bits_of(word.widened(), from, count) != 0 {
             return Err(self.refuse(MessageFault::Reserved));
         }
-        Ok((flags, Body { rest, ..self }))
-    }
-
-    pub(crate) fn take_u16(self) -> Result<(u16, Body<'a>), MessageRefusal>
-        ensures { MatchResult result (λ p. Takes (number 2) (whole 2 p.0) self.entry p.1) (λ e. Denies (number 2) self.entry e) }
-    {
-        let Some((number, rest)) = take_u16(self.rest) else {
-            return Err(self.refuse(MessageFault::Cut));
-        };
-        Ok((number, Body { rest, ..self }))
-    }
-
-    pub(crate) fn take_u32(self) -> Result<(u32, Body<'a>), MessageRefusal>
-        ensures { MatchResult result (λ p. Takes (number 4) (whole 4 p.0) self.entry p.1) (λ e. Denies (number 4) self.entry e) }
-    {
-        let Some((number, rest)) = take_u32(self.rest) else {
-            return Err(self.refuse(MessageFault::Cut));
-        };
-        Ok((number, Body { rest, ..self }))
+        Ok((word, Body { rest, ..self }))
     }
 
     pub(crate) fn take_text(self) -> Result<(Text<'a>, Body<'a>), MessageRefusal>
@@ -78,8 +75,7 @@ impl<'a> Body<'a> {
     {
         match take_text(self.rest) {
             Ok((text, rest)) => Ok((text, Body { rest, ..self })),
-            Err(TextFault::Cut) => Err(self.refuse(MessageFault::Cut)),
-            Err(TextFault::NoText) => Err(self.refuse(MessageFault::Text)),
+            Err(fault) => Err(self.refuse(fault.into())),
         }
     }
 

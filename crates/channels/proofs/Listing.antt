@@ -1,9 +1,11 @@
 -- Entries passed one after another.
-use Rattle.std.proofs.Common.{◌≡◌, ℕ, suc, ◌+◌, ◌-◌, ◌*◌, ◌/◌, ◌%◌, ◌^◌, ◌<◌, Bool, true, false, List, [], ◌∷◌, ◌++◌, length, sym, refl, ap, ◌∙◌, subst, append-nil, arith}
-use Rattle.body.specs.Fields.{Field, Item, listing, whole, all_bytes, bits, flag, entry, times, Stand}
+use Rattle.std.proofs.Common.{◌≡◌, ℕ, suc, ◌+◌, ◌-◌, ◌*◌, ◌/◌, ◌%◌, ◌^◌, ◌<◌, Bool, true, false, not, List, [], ◌∷◌, ◌++◌, sym, refl, ap, ◌∙◌, subst, append-nil, arith}
+use Rattle.basics.specs.Bits.{bits, bit}
+use Rattle.body.specs.Fields.{Field, Item, listing, whole, all_bytes, entry, times, unless, when, Stand}
 use Rattle.body.specs.Steps.{Takes, Took, Failed}
 use Rattle.body.specs.declared.cursor.Body.{Body}
 use Rattle.body.specs.declared.fault.MessageRefusal.{MessageRefusal}
+use Rattle.body.proofs.Bits.{bit_low}
 use Rattle.body.proofs.Chains.{Sofar, start, next, nexts, fails, stand_more}
 use Rattle.body.proofs.Once.{none_stand, split, Split}
 use Rattle.channels.specs.Layouts.{layout_word, entry_of}
@@ -12,9 +14,6 @@ use Rattle.channels.specs.declared.layout.Layout.{Layout}
 -- of n times the fields gs, i times are passed
 abbrev pub Passed : ℕ → ℕ → List Field → Body → Body → Type 0
 Passed n i gs b c = (is : List Item) × Sofar (times n gs) b is (times (n - i) gs) c
-
-pub passed_none : (n : ℕ) (gs : List Field) (b : Body) → Passed n 0 gs b b
-passed_none n gs b = let e : n ≡ n - 0 = omega arith in ([], subst (λ (k : ℕ). Sofar (times n gs) b [] (times k gs) b) e (start _ _))
 
 one_more : (n i : ℕ) (gs : List Field) (b c : Body) → i < n → Passed n i gs b c → (is : List Item) × Sofar (times n gs) b is (gs ++ times (n - (i + 1)) gs) c
 one_more n i gs b c l (is, s) = let e : n - i ≡ suc (n - (i + 1)) = omega arith in (is, subst (λ (k : ℕ). Sofar (times n gs) b is (times k gs) c) e s)
@@ -25,42 +24,28 @@ passed_more n i gs b c d js l p t = let m = one_more n i gs b c l p in (m.0 ++ j
 pub failed_more : (n i : ℕ) (gs : List Field) (b c : Body) (r : MessageRefusal) → i < n → Passed n i gs b c → Failed gs c r → Failed (times n gs) b r
 failed_more n i gs b c r l p f = fails _ r f (one_more n i gs b c l p).1
 
-pub passed_all : (n i : ℕ) (gs : List Field) (b c : Body) → i ≡ n → Passed n i gs b c → (is : List Item) × Took (times n gs) is b c
-passed_all n i gs b c e (is, s) =
-    let none : n - i ≡ 0 = omega arith in
-    let all = subst (λ (k : ℕ). Sofar (times n gs) b is (times k gs) c) none s in
-    (is, record { stand = all.stand; stands = all.stands; ends = all.ends })
-
-flag_low : (b : Bool) → flag b < 2
-flag_low true = omega arith
-flag_low false = omega arith
-
 -- the head of a list asks for its entries
 headed_by : (valued : Bool) (l : Layout) → l.valued ≡ valued → l.count < 4096
     → times (bits 0 12 (layout_word l)) (entry valued (bits 15 1 (layout_word l)) (bits 14 1 (layout_word l))) ≡ times l.count (entry_of l)
 headed_by valued l v h =
-    let d = flag_low l.detailed in
-    let u = flag_low l.unnamed in
+    let d = bit_low l.detailed in
+    let u = bit_low l.unnamed in
     let count : bits 0 12 (layout_word l) ≡ l.count = omega arith in
-    let top : layout_word l / 2 ^ 15 ≡ flag l.detailed = omega arith in
-    let one : flag l.detailed % 2 ≡ flag l.detailed = omega arith in
-    let detailed : bits 15 1 (layout_word l) ≡ flag l.detailed = ap (λ (k : ℕ). k % 2) top ∙ one in
-    let above : layout_word l / 2 ^ 14 ≡ 2 * flag l.detailed + flag l.unnamed = omega arith in
-    let low : (2 * flag l.detailed + flag l.unnamed) % 2 ≡ flag l.unnamed = omega arith in
-    let unnamed : bits 14 1 (layout_word l) ≡ flag l.unnamed = ap (λ (k : ℕ). k % 2) above ∙ low in
+    let top : layout_word l / 2 ^ 15 ≡ bit l.detailed = omega arith in
+    let one : bit l.detailed % 2 ≡ bit l.detailed = omega arith in
+    let detailed : bits 15 1 (layout_word l) ≡ bit l.detailed = ap (λ (k : ℕ). k % 2) top ∙ one in
+    let above : layout_word l / 2 ^ 14 ≡ 2 * bit l.detailed + bit l.unnamed = omega arith in
+    let low : (2 * bit l.detailed + bit l.unnamed) % 2 ≡ bit l.unnamed = omega arith in
+    let unnamed : bits 14 1 (layout_word l) ≡ bit l.unnamed = ap (λ (k : ℕ). k % 2) above ∙ low in
     ap (λ (k : ℕ). times k (entry valued (bits 15 1 (layout_word l)) (bits 14 1 (layout_word l)))) count
     ∙ ap (λ (k : ℕ). times l.count (entry valued k (bits 14 1 (layout_word l)))) detailed
-    ∙ ap (λ (k : ℕ). times l.count (entry valued (flag l.detailed) k)) unnamed
-    ∙ ap (λ (b : Bool). times l.count (entry b (flag l.detailed) (flag l.unnamed))) (sym v)
+    ∙ ap (λ (k : ℕ). times l.count (entry valued (bit l.detailed) k)) unnamed
+    ∙ ap (λ (b : Bool). times l.count (entry b (bit l.detailed) (bit l.unnamed))) (sym v)
 
 pub headed : (valued : Bool) (l : Layout) (b c : Body) → Takes (listing valued) (whole 2 (layout_word l)) b c × (l.valued ≡ valued) × (l.count < 4096)
     → Sofar (listing valued ∷ []) b (whole 2 (layout_word l) ∷ []) (times l.count (entry_of l)) c
 headed valued l b c (t, v, h) =
     subst (λ (x : List Field). Sofar (listing valued ∷ []) b (whole 2 (layout_word l) ∷ []) x c) (append-nil _ ∙ headed_by valued l v h) (next (start _ _) t)
-
-pub used_up : (xs es t : List ℕ) → xs ≡ es ++ t → length t ≡ 0 → xs ≡ es
-used_up xs es [] e h = e ∙ append-nil es
-used_up xs es (x ∷ t) e h = absurd (omega arith)
 
 none_held : (es : List Item) → Stand [] es [] → es ≡ []
 none_held [] h = refl
@@ -83,3 +68,8 @@ failed_listed n gs b r es some f h e =
 pub first_listed : (n : ℕ) (gs : List Field) (b c : Body) (is es : List Item) → (n ≡ 0 → ⊥) → Took gs is b c → Stand (times n gs) es [] → b.rest.now ≡ all_bytes es → Split (times (n - 1) gs) is es [] c.rest.now
 first_listed n gs b c is es some t h e =
     split gs (times (n - 1) gs) is es [] c.rest.now t.stand (one_first n gs es some h) (append-nil (all_bytes es) ∙ sym e ∙ t.stands)
+
+-- a field that stands where there is no flag
+pub unflagged : (b : Bool) (fs : List Field) → when (bit (not b)) fs ≡ unless (bit b) fs
+unflagged true fs = refl
+unflagged false fs = refl

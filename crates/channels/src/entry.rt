@@ -1,6 +1,7 @@
 // The entries of a list.
 ghost use Rattle.std.specs.Prelude.{◌≡◌, [], ◌∷◌, MatchResult};
-ghost use Rattle.body.specs.Fields.{number, text, flag, unless, items_if};
+ghost use Rattle.basics.specs.Bits.{bit};
+ghost use Rattle.body.specs.Fields.{number, text, unless, items_if};
 ghost use Rattle.body.specs.Steps.{Took, Failed};
 ghost use Rattle.channels.specs.Entries.{name_items, detail_items, entry_items};
 ghost use Rattle.channels.specs.Layouts.{entry_of};
@@ -35,7 +36,7 @@ impl<'a> Held<'a> for Detail {
     ghost items = { detail_items };
 
     fn take(body: Body<'a>) -> Result<(Detail, Body<'a>), MessageRefusal> {
-        let ((sub_device, (function, group)), body) = <(u16, (u8, u8))>::take(body)?;
+        let ((sub_device, (function, group)), body) = Held::take(body)?;
         let detail = Detail {
             sub_device,
             function,
@@ -45,15 +46,6 @@ impl<'a> Held<'a> for Detail {
     }
 }
 
-fn take_name(unnamed: bool, body: Body<'_>) -> Result<(Option<Text<'_>>, Body<'_>), MessageRefusal>
-    ensures { MatchResult result (λ p. Took (unless (flag unnamed) (text ∷ [])) (items_if name_items p.0) body.entry p.1) (λ e. Failed (unless (flag unnamed) (text ∷ [])) body.entry e) }
-{
-    if unnamed {
-        return Ok((None, body));
-    }
-    take_if::<Text<'_>>(true, body)
-}
-
 // The entry at the front, by the layout of its list.
 pub(crate) fn take_entry(
     layout: Layout,
@@ -61,10 +53,10 @@ pub(crate) fn take_entry(
 ) -> Result<(Entry<'_>, Body<'_>), MessageRefusal>
     ensures { MatchResult result (λ p. Took (entry_of layout) (entry_items p.0) body.entry p.1) (λ e. Failed (entry_of layout) body.entry e) }
 {
-    let (id, body) = u32::take(body)?;
-    let (name, body) = take_name(layout.unnamed, body)?;
-    let (detail, body) = take_if::<Detail>(layout.detailed, body)?;
-    let (value, body) = take_if::<Value<'_>>(layout.valued, body)?;
+    let (id, body) = Held::take(body)?;
+    let (name, body) = take_if(!layout.unnamed, body)?;
+    let (detail, body) = take_if(layout.detailed, body)?;
+    let (value, body) = take_if(layout.valued, body)?;
     let entry = Entry {
         id,
         name,

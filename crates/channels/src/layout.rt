@@ -4,10 +4,9 @@ ghost use Rattle.body.specs.Fields.{listing, whole};
 ghost use Rattle.body.specs.Steps.{Takes, Denies};
 ghost use Rattle.channels.specs.Layouts.{layout_word};
 
-use body::bits::{bits_of, is_set};
+use basics::bits::{bits_of, is_set};
 use body::cursor::Body;
-use body::fault::{MessageFault, MessageRefusal};
-use fields::number::take_u16;
+use body::fault::MessageRefusal;
 
 // How many entries a list has, and what each of them holds beside its id.
 #[derive(Clone, Copy, PartialEq, Eq, Debug)]
@@ -27,17 +26,12 @@ pub(crate) fn take_layout(
 ) -> Result<(Layout, Body<'_>), MessageRefusal>
     ensures { MatchResult result (λ p. Takes (listing valued) (whole 2 (layout_word p.0)) body.entry p.1 × (p.0.valued ≡ valued) × (p.0.count < 4096)) (λ e. Denies (listing valued) body.entry e) }
 {
-    let Some((word, rest)) = take_u16(body.rest) else {
-        return Err(body.refuse(MessageFault::Cut));
-    };
-    if bits_of(word, 12, 2) != 0 {
-        return Err(body.refuse(MessageFault::Reserved));
-    }
+    let (word, body) = body.take_word::<u16>(12, 2)?;
     let layout = Layout {
         detailed: is_set(word, 15),
         unnamed: is_set(word, 14),
         valued,
         count: bits_of(word, 0, 12),
     };
-    Ok((layout, Body { rest, ..body }))
+    Ok((layout, body))
 }

@@ -19,7 +19,7 @@ pub struct Channels<'a> {
     pub entries: &'a [u8],
 }
 
-// Passes over as many entries as the layout counts.
+// Passes over as many entries as the layout counts. A `for`, since `try_fold` would take each pair apart just the same.
 fn pass_entries(layout: Layout, body: Body<'_>) -> Result<Body<'_>, MessageRefusal>
     ensures { MatchResult result (λ c. (es : List Item) × Took (times layout.count (entry_of layout)) es body.entry c) (λ e. Failed (times layout.count (entry_of layout)) body.entry e) }
 {
@@ -38,6 +38,7 @@ pub fn read_channels(valued: bool, body: Body<'_>) -> Result<Channels<'_>, Messa
     take_channels(valued, body)
 }
 
+// What `read_channels` does. It stands apart so that the public one needs no proof file.
 fn take_channels(valued: bool, body: Body<'_>) -> Result<Channels<'_>, MessageRefusal>
     ensures { MatchResult result (λ c. ListsBody valued c body.entry.rest.now × (c.layout.valued ≡ valued)) (λ e. Refuses (listing valued ∷ []) nothing body.entry e) }
 {
@@ -58,21 +59,16 @@ impl<'a> Channels<'a> {
         self.split_first()
     }
 
+    // What `first` does. It stands apart so that the public one needs no proof file.
     fn split_first(self) -> Option<(Entry<'a>, Channels<'a>)>
         ensures { MatchOption result (Empty self.entry) (λ p. Begins self.entry p.0 p.1) }
     {
-        if self.layout.count == 0 {
-            return None;
-        }
-        let body = Body {
-            rest: self.entries,
-            end: self.entries.len(),
-        };
-        let Ok((entry, after)) = take_entry(self.layout, body) else {
+        let count = self.layout.count.checked_sub(1)?;
+        let Ok((entry, after)) = take_entry(self.layout, Body::new(self.entries, 0)) else {
             return None;
         };
         let layout = Layout {
-            count: self.layout.count - 1,
+            count,
             ..self.layout
         };
         let others = Channels {

@@ -1,3 +1,2 @@
-pub mod Feeding
 pub mod Shifting
 pub mod Entries

@@ -7,10 +7,10 @@ ghost use Rattle.checks.specs.Check.{fed};
 pub trait Check {
     type Register: Copy;
 
+    // the number of bytes in which the check is written
     const WIDTH: usize;
 
-    // the number of bytes in which the check is written
-    ghost width: { ℕ };
+    ghost WIDTH: { ℕ };
 
     // the number that the check gives a list of bytes
     ghost meaning: { List ℕ → ℕ };
@@ -22,10 +22,6 @@ pub trait Check {
 
     ghost shows: { Self.Register → ℕ };
 
-    // WIDTH, where a proof can see it
-    fn bytes() -> usize
-        ensures { result ≡ width };
-
     fn start() -> Self::Register
         ensures { result ≡ empty };
 
@@ -35,9 +31,9 @@ pub trait Check {
     fn number(register: Self::Register) -> u32
         ensures { result ≡ shows register };
 
-    ghost bounds: { (1 ≤ width) × (width ≤ 4) };
+    ghost bounds: { (1 ≤ WIDTH) × (WIDTH ≤ 4) };
 
-    ghost fits: { (bs : List ℕ) → Bytes bs → meaning bs < 256 ^ width };
+    ghost fits: { (bs : List ℕ) → Bytes bs → meaning bs < 256 ^ WIDTH };
 
     // feeding a list byte by byte gives a register whose number is the list's meaning
     ghost feeding: { (bs : List ℕ) → Bytes bs → shows (fed after empty bs) ≡ meaning bs };
@@ -46,7 +42,7 @@ pub trait Check {
 // The check of `bytes`.
 pub fn check_of<C: Check>(bytes: &[u8]) -> u32
     ensures is { result ≡ C.meaning bytes.now }
-    ensures fits { result < 256 ^ C.width }
+    ensures fits { result < 256 ^ C.WIDTH }
 {
     C::number(register_of::<C>(bytes))
 }
@@ -54,7 +50,7 @@ pub fn check_of<C: Check>(bytes: &[u8]) -> u32
 // The register after all of `bytes`.
 fn register_of<C: Check>(bytes: &[u8]) -> C::Register
     ensures is { C.shows result ≡ C.meaning bytes.now }
-    ensures fits { C.shows result < 256 ^ C.width }
+    ensures fits { C.shows result < 256 ^ C.WIDTH }
 {
     let mut register = C::start();
     for byte in bytes {

@@ -40,7 +40,7 @@ impl Check for Crc16 {
 
     const WIDTH: usize = 2;
 
-    ghost width = { 2 };
+    ghost WIDTH = { 2 };
 
     ghost meaning = { crc16_of };
 
@@ -55,10 +55,6 @@ impl Check for Crc16 {
     ghost fits = { λ bs h. crc16_fits bs h };
 
     ghost feeding = { λ bs h. crc16_feeding bs };
-
-    fn bytes() -> usize {
-        Self::WIDTH
-    }
 
     fn start() -> u16 {
         0xFFFF
@@ -80,7 +76,7 @@ fn eight_shifts(register: u16) -> u16
     (register >> 8) ^ TABLE[(register & 0xFF) as usize]
 }
 
-// The CRC-16 of `bytes`.
+// The CRC-16 of `bytes`, in a number of its own width: `check_of` serves every check, and has 32 bits for all.
 pub fn crc16_of(bytes: &[u8]) -> u16
     ensures { result ≡ crc16_of bytes.now }
 {

@@ -13,7 +13,7 @@ impl Check for Xor {
 
     const WIDTH: usize = 1;
 
-    ghost width = { 1 };
+    ghost WIDTH = { 1 };
 
     ghost meaning = { xor_of };
 
@@ -29,10 +29,6 @@ impl Check for Xor {
 
     ghost feeding = { λ bs h. xor_feeding bs };
 
-    fn bytes() -> usize {
-        Self::WIDTH
-    }
-
     fn start() -> u8 {
         0
     }
@@ -46,7 +42,7 @@ impl Check for Xor {
     }
 }
 
-// The exclusive or of `bytes`, 0 for none.
+// The exclusive or of `bytes`, 0 for none, in a number of its own width: `check_of` has 32 bits for every check.
 pub fn xor_of(bytes: &[u8]) -> u8
     ensures { result ≡ xor_of bytes.now }
 {

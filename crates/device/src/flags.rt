@@ -1,10 +1,11 @@
 // Bytes of flags, by name. Bits that no name has are reserved and must be 0.
-ghost use Rattle.std.specs.Prelude.{◌≡◌, [], ◌∷◌, MatchResult};
-ghost use Rattle.body.specs.Fields.{word, whole, bits};
-ghost use Rattle.body.specs.Steps.{Takes, Denies};
+ghost use Rattle.std.specs.Prelude.{◌≡◌, ℕ, [], ◌∷◌, MatchResult};
+ghost use Rattle.basics.specs.Bits.{bits};
+ghost use Rattle.body.specs.Fields.{word, whole};
+ghost use Rattle.body.specs.Steps.{Took, Failed};
 ghost use Rattle.device.specs.Flags.{groups_byte, device_byte, options_byte, groups_items, device_items, options_items};
 
-use body::bits::is_set;
+use basics::bits::is_set;
 use body::cursor::Body;
 use body::fault::MessageRefusal;
 use body::held::Held;
@@ -39,15 +40,95 @@ pub struct ListOptions {
     pub unnamed: bool,
 }
 
-fn groups_in(byte: u8) -> Groups
-    ensures { groups_byte result ≡ bits 0 4 byte }
-{
-    Groups {
-        utility: is_set(byte as u16, 0),
-        panel: is_set(byte as u16, 1),
-        controller: is_set(byte as u16, 2),
-        actuator: is_set(byte as u16, 3),
+// Flags in a byte, of which `RESERVED` bits from the bit `FROM` on are reserved.
+trait Flags: Copy {
+    const FROM: u8;
+
+    ghost FROM: { ℕ };
+
+    const RESERVED: u8;
+
+    ghost RESERVED: { ℕ };
+
+    // the byte as it is written
+    ghost written: { Self → ℕ };
+
+    // The flags in a byte.
+    fn in_byte(byte: u8) -> Self
+        ensures { bits FROM RESERVED byte ≡ 0 → written result ≡ byte };
+}
+
+impl Flags for Groups {
+    const FROM: u8 = 4;
+
+    ghost FROM = { 4 };
+
+    const RESERVED: u8 = 4;
+
+    ghost RESERVED = { 4 };
+
+    ghost written = { groups_byte };
+
+    fn in_byte(byte: u8) -> Groups {
+        let byte = u16::from(byte);
+        Groups {
+            utility: is_set(byte, 0),
+            panel: is_set(byte, 1),
+            controller: is_set(byte, 2),
+            actuator: is_set(byte, 3),
+        }
     }
+}
+
+impl Flags for DeviceFlags {
+    const FROM: u8 = 7;
+
+    ghost FROM = { 7 };
+
+    const RESERVED: u8 = 1;
+
+    ghost RESERVED = { 1 };
+
+    ghost written = { device_byte };
+
+    fn in_byte(byte: u8) -> DeviceFlags {
+        let groups = Groups::in_byte(byte % 16);
+        let byte = u16::from(byte);
+        DeviceFlags {
+            groups,
+            booting: is_set(byte, 4),
+            updatable: is_set(byte, 5),
+            gateway: is_set(byte, 6),
+        }
+    }
+}
+
+impl Flags for ListOptions {
+    const FROM: u8 = 0;
+
+    ghost FROM = { 0 };
+
+    const RESERVED: u8 = 6;
+
+    ghost RESERVED = { 6 };
+
+    ghost written = { options_byte };
+
+    fn in_byte(byte: u8) -> ListOptions {
+        let byte = u16::from(byte);
+        ListOptions {
+            detailed: is_set(byte, 7),
+            unnamed: is_set(byte, 6),
+        }
+    }
+}
+
+// Takes a byte of flags. `Held` has an impl for each kind: one for every kind would overlap with those of numbers.
+fn take_flags<F: Flags>(body: Body<'_>) -> Result<(F, Body<'_>), MessageRefusal>
+    ensures { MatchResult result (λ p. Took (word 1 F.FROM F.RESERVED ∷ []) (whole 1 (F.written p.0) ∷ []) body.entry p.1) (λ e. Failed (word 1 F.FROM F.RESERVED ∷ []) body.entry e) }
+{
+    let (byte, body) = body.take_word::<u8>(F::FROM, F::RESERVED)?;
+    Ok((F::in_byte(byte), body))
 }
 
 impl<'a> Held<'a> for Groups {
@@ -56,15 +137,8 @@ impl<'a> Held<'a> for Groups {
     ghost items = { groups_items };
 
     fn take(body: Body<'a>) -> Result<(Groups, Body<'a>), MessageRefusal> {
-        take_groups(body)
+        take_flags(body)
     }
-}
-
-fn take_groups(body: Body<'_>) -> Result<(Groups, Body<'_>), MessageRefusal>
-    ensures { MatchResult result (λ p. Takes (word 1 4 4) (whole 1 (groups_byte p.0)) body.entry p.1) (λ e. Denies (word 1 4 4) body.entry e) }
-{
-    let (byte, body) = body.take_flags(4, 4)?;
-    Ok((groups_in(byte), body))
 }
 
 impl<'a> Held<'a> for DeviceFlags {
@@ -73,21 +147,8 @@ impl<'a> Held<'a> for DeviceFlags {
     ghost items = { device_items };
 
     fn take(body: Body<'a>) -> Result<(DeviceFlags, Body<'a>), MessageRefusal> {
-        take_device_flags(body)
+        take_flags(body)
     }
-}
-
-fn take_device_flags(body: Body<'_>) -> Result<(DeviceFlags, Body<'_>), MessageRefusal>
-    ensures { MatchResult result (λ p. Takes (word 1 7 1) (whole 1 (device_byte p.0)) body.entry p.1) (λ e. Denies (word 1 7 1) body.entry e) }
-{
-    let (byte, body) = body.take_flags(7, 1)?;
-    let flags = DeviceFlags {
-        groups: groups_in(byte),
-        booting: is_set(byte as u16, 4),
-        updatable: is_set(byte as u16, 5),
-        gateway: is_set(byte as u16, 6),
-    };
-    Ok((flags, body))
 }
 
 impl<'a> Held<'a> for ListOptions {
@@ -96,17 +157,6 @@ impl<'a> Held<'a> for ListOptions {
     ghost items = { options_items };
 
     fn take(body: Body<'a>) -> Result<(ListOptions, Body<'a>), MessageRefusal> {
-        take_list_options(body)
+        take_flags(body)
     }
-}
-
-fn take_list_options(body: Body<'_>) -> Result<(ListOptions, Body<'_>), MessageRefusal>
-    ensures { MatchResult result (λ p. Takes (word 1 0 6) (whole 1 (options_byte p.0)) body.entry p.1) (λ e. Denies (word 1 0 6) body.entry e) }
-{
-    let (byte, body) = body.take_flags(0, 6)?;
-    let options = ListOptions {
-        detailed: is_set(byte as u16, 7),
-        unnamed: is_set(byte as u16, 6),
-    };
-    Ok((options, body))
 }

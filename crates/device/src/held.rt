@@ -1,13 +1,11 @@
-// Descriptions of devices in the fields of a body.
+// Descriptions of devices in the fields of a body. Each has an impl of its own, since each names its own fields.
 ghost use Rattle.device.specs.Descriptions.{names_items, platform_items, product_items, revision_items, found_items, info_items};
 ghost use Rattle.device.specs.Descriptions.{names_fields, platform_fields, product_fields, revision_fields, found_fields, info_fields};
 
 use crate::description::{Found, Info, Names, Platform, Product, Revision};
-use crate::flags::DeviceFlags;
 use body::cursor::Body;
 use body::fault::MessageRefusal;
 use body::held::Held;
-use text::Text;
 
 impl<'a> Held<'a> for Revision {
     ghost fields = { revision_fields };
@@ -15,7 +13,7 @@ impl<'a> Held<'a> for Revision {
     ghost items = { revision_items };
 
     fn take(body: Body<'a>) -> Result<(Revision, Body<'a>), MessageRefusal> {
-        let ((user_id, counter), body) = <(u32, u16)>::take(body)?;
+        let ((user_id, counter), body) = Held::take(body)?;
         let revision = Revision { user_id, counter };
         Ok((revision, body))
     }
@@ -27,10 +25,7 @@ impl<'a> Held<'a> for Names<'a> {
     ghost items = { names_items };
 
     fn take(body: Body<'a>) -> Result<(Names<'a>, Body<'a>), MessageRefusal> {
-        let ((name, (manufacturer, (model, unique_id))), body) = <(
-            Text<'a>,
-            (Text<'a>, (Text<'a>, Text<'a>)),
-        )>::take(body)?;
+        let ((name, (manufacturer, (model, unique_id))), body) = Held::take(body)?;
         let names = Names {
             name,
             manufacturer,
@@ -47,9 +42,7 @@ impl<'a> Held<'a> for Platform {
     ghost items = { platform_items };
 
     fn take(body: Body<'a>) -> Result<(Platform, Body<'a>), MessageRefusal> {
-        let ((class, (processor, (system, flags))), body) = <(u8, (u8, (u8, DeviceFlags)))>::take(
-            body,
-        )?;
+        let ((class, (processor, (system, flags))), body) = Held::take(body)?;
         let platform = Platform {
             class,
             processor,
@@ -66,10 +59,7 @@ impl<'a> Held<'a> for Product {
     ghost items = { product_items };
 
     fn take(body: Body<'a>) -> Result<(Product, Body<'a>), MessageRefusal> {
-        let ((profile, (version, (control_channels, feedback_channels))), body) = <(
-            u16,
-            (u16, (u32, u32)),
-        )>::take(body)?;
+        let ((profile, (version, (control_channels, feedback_channels))), body) = Held::take(body)?;
         let product = Product {
             profile,
             version,
@@ -86,10 +76,7 @@ impl<'a> Held<'a> for Found<'a> {
     ghost items = { found_items };
 
     fn take(body: Body<'a>) -> Result<(Found<'a>, Body<'a>), MessageRefusal> {
-        let ((group, (unique_id, (event, (flags, revision)))), body) = <(
-            u8,
-            (Text<'a>, (u8, (DeviceFlags, Revision))),
-        )>::take(body)?;
+        let ((group, (unique_id, (event, (flags, revision)))), body) = Held::take(body)?;
         let found = Found {
             group,
             unique_id,
@@ -107,14 +94,13 @@ impl<'a> Held<'a> for Info<'a> {
     ghost items = { info_items };
 
     fn take(body: Body<'a>) -> Result<(Info<'a>, Body<'a>), MessageRefusal> {
-        let (read, body) = <(u8, (Names<'a>, (Platform, (Product, Revision))))>::take(body)?;
-        let all = &read;
+        let ((group, (names, (platform, (product, revision)))), body) = Held::take(body)?;
         let info = Info {
-            group: all.0,
-            names: all.1.0,
-            platform: all.1.1.0,
-            product: all.1.1.1.0,
-            revision: all.1.1.1.1,
+            group,
+            names,
+            platform,
+            product,
+            revision,
         };
         Ok((info, body))
     }

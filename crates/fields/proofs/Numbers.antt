@@ -1,15 +1,16 @@
 -- A number gathered from the last byte to the first.
-use Rattle.std.proofs.Common.{◌≡◌, ℕ, suc, ◌+◌, ◌-◌, ◌*◌, ◌/◌, ◌%◌, ◌^◌, ◌<◌, ◌≤◌, List, ◌∷◌, ◌++◌, length, get_or, take, drop, sym, ap, ◌∙◌, subst, zero-lt-suc, arith, take-append-drop}
+use Rattle.std.proofs.Common.{◌≡◌, ℕ, suc, ◌+◌, ◌*◌, ◌/◌, ◌%◌, ◌^◌, ◌<◌, ◌≤◌, List, [], ◌∷◌, ◌++◌, length, get_or, sym, ap, ◌∙◌, subst, zero-lt-suc, arith, length-append, append_assoc, take, drop, take-append-drop, mod-eq_of_lt}
 use native.Mathlib.Nat.{pow-succ', pow-le-pow_right}
-use Rattle.std.proofs.lemmas.List.{drop_more, drop_all}
+use Rattle.std.proofs.lemmas.List.{nil_from_length, append-nil}
+use Rattle.std.proofs.lemmas.Grind.{common_steps}
 use Rattle.basics.specs.Little.{little}
-use Rattle.fields.specs.Numbers.{NumberFirst}
+use Rattle.basics.proofs.Littles.{length_little}
 
--- n is the number in the bytes of s from i on
-pub record Gathered (s : List ℕ) (i n : ℕ) : Type 0 where
-  pub within : i ≤ length s
-  pub is : drop i s ≡ little (length s - i) n
-  pub below : n < 256 ^ (length s - i)
+-- xs are the bytes rest and then those of the number n
+pub record Gathered (xs rest : List ℕ) (n : ℕ) : Type 0 where
+  pub width : ℕ
+  pub below : n < 256 ^ width
+  pub bytes : xs ≡ rest ++ little width n
 
 little_more : (w n b : ℕ) → b < 256 → little (suc w) (256 * n + b) ≡ b ∷ little w n
 little_more w n b h =
@@ -17,34 +18,44 @@ little_more w n b h =
     let high : (256 * n + b) / 256 ≡ n = omega arith in
     rw (low, high)
 
-pub gathered_none : (s : List ℕ) (i : ℕ) → i ≡ length s → Gathered s i 0
-gathered_none s i e =
-    let none : length s - i ≡ 0 = omega arith in
+pub gathered_none : (xs rest : List ℕ) → rest ≡ xs → Gathered xs rest 0
+gathered_none xs rest e = record { width = 0; below = omega arith; bytes = sym e ∙ sym (append-nil rest) }
+
+gathered_long : {xs rest : List ℕ} {n : ℕ} (h : Gathered xs rest n) → length xs ≡ length rest + h.width
+gathered_long {xs} {rest} {n} h = ap length h.bytes ∙ length-append rest (little h.width n) ∙ ap (λ (k : ℕ). length rest + k) (length_little h.width n)
+
+byte_at : (front : List ℕ) (b : ℕ) (more xs : List ℕ) → xs ≡ (front ++ b ∷ []) ++ more → get_or xs (length front) 0 ≡ b
+byte_at front b more xs e = grind (arith, common_steps)
+
+-- the byte before them is one of xs
+pub gathered_byte : {xs rest : List ℕ} {n : ℕ} (front : List ℕ) (b : ℕ) → Gathered xs rest n → rest ≡ front ++ b ∷ [] → ((i : ℕ) → get_or xs i 0 < 256) → b < 256
+gathered_byte {xs} {rest} {n} front b h e low =
+    let is : get_or xs (length front) 0 ≡ b = byte_at front b (little h.width n) xs (h.bytes ∙ ap (λ (t : List ℕ). t ++ little h.width n) e) in
+    omega (arith, low (length front))
+
+pub gathered_more : {xs rest : List ℕ} {n : ℕ} (front : List ℕ) (b : ℕ) → Gathered xs rest n → rest ≡ front ++ b ∷ [] → ((i : ℕ) → get_or xs i 0 < 256) → Gathered xs front (256 * n + b)
+gathered_more {xs} {rest} {n} front b h e low =
+    let byte : b < 256 = gathered_byte front b h e low in
     record {
-      within = omega arith;
-      is = drop_all i s (omega arith) ∙ ap (λ (w : ℕ). little w 0) (sym none);
-      below = subst (λ (w : ℕ). 0 < 256 ^ w) (sym none) (omega arith);
+      width = suc h.width;
+      below = omega (arith, pow-succ' 256 h.width, h.below);
+      bytes = h.bytes ∙ ap (λ (t : List ℕ). t ++ little h.width n) e ∙ append_assoc front (b ∷ []) (little h.width n) ∙ ap (λ (t : List ℕ). front ++ t) (sym (little_more h.width n b byte));
     }
 
-pub gathered_more : (s : List ℕ) (i n b : ℕ) → Gathered s i n → 0 < i → b < 256 → b ≡ get_or s (i - 1) 0 → Gathered s (i - 1) (256 * n + b)
-gathered_more s i n b h some low e =
-    let back : i - 1 + 1 ≡ i = omega arith in
-    let in-s : i ≤ length s = h.within in
-    let more : length s - (i - 1) ≡ suc (length s - i) = omega arith in
-    record {
-      within = omega arith;
-      is = drop_more s (i - 1) 0 (omega arith) ∙ ap (λ (j : ℕ). get_or s (i - 1) 0 ∷ drop j s) back ∙ ap (λ (t : List ℕ). get_or s (i - 1) 0 ∷ t) h.is
-          ∙ ap (λ (x : ℕ). x ∷ little (length s - i) n) (sym e) ∙ sym (little_more (length s - i) n b low) ∙ ap (λ (w : ℕ). little w (256 * n + b)) (sym more);
-      below = subst (λ (w : ℕ). 256 * n + b < 256 ^ w) (sym more) (omega (arith, pow-succ' 256 (length s - i), h.below));
-    }
+-- of at most eight bytes, seven leave room for one more
+pub gathered_room : {xs rest : List ℕ} {n : ℕ} (front : List ℕ) (b : ℕ) → Gathered xs rest n → rest ≡ front ++ b ∷ [] → length xs ≤ 8 → n < 256 ^ 7
+gathered_room {xs} {rest} {n} front b h e l =
+    let few : h.width ≤ 7 = omega (arith, gathered_long h, ap length e, length-append front (b ∷ [])) in
+    omega (arith, h.below, pow-le-pow_right (zero-lt-suc 255) few)
 
--- with at most eight bytes there is room for one more
-pub gathered_room : (s : List ℕ) (i n : ℕ) → Gathered s i n → length s - i ≤ 7 → n < 256 ^ 7
-gathered_room s i n h l = omega (arith, h.below, pow-le-pow_right (zero-lt-suc 255) l)
+-- all bytes are gathered, as many as a number of that width has
+pub gathered_all : {xs rest : List ℕ} {n : ℕ} (w m : ℕ) → Gathered xs rest n → length rest ≡ 0 → length xs ≡ w → m ≡ n % 256 ^ w → (m < 256 ^ w) × (xs ≡ little w m)
+gathered_all {xs} {rest} {n} w m h none size lowest =
+    let all : h.width ≡ w = omega (arith, gathered_long h) in
+    let below : n < 256 ^ w = subst (λ (k : ℕ). n < 256 ^ k) all h.below in
+    let is : n ≡ m = sym (lowest ∙ mod-eq_of_lt below) in
+    (subst (λ (k : ℕ). k < 256 ^ w) is below, h.bytes ∙ ap (λ (t : List ℕ). t ++ little h.width n) (nil_from_length rest none) ∙ ap (λ (k : ℕ). little k n) all ∙ ap (little w) is)
 
--- all bytes are gathered
-pub gathered_all : (w i n : ℕ) (xs front rest : List ℕ) → front ≡ take w xs → rest ≡ drop w xs → length front ≡ w → i ≡ 0 → Gathered front i n → NumberFirst w n rest xs
-gathered_all w i n xs front rest e f size none h =
-    let all : length front - i ≡ w = omega arith in
-    let is : front ≡ little w n = subst (λ (j : ℕ). drop j front ≡ little w n) none (subst (λ (k : ℕ). drop i front ≡ little k n) all h.is) in
-    (subst (λ (k : ℕ). n < 256 ^ k) all h.below, sym (take-append-drop w xs) ∙ ap (λ (t : List ℕ). t ++ drop w xs) (sym e ∙ is) ∙ ap (λ (t : List ℕ). little w n ++ t) (sym f))
+-- the bytes before and after a place
+pub front_bytes : (w : ℕ) (xs front rest bytes : List ℕ) → front ≡ take w xs → rest ≡ drop w xs → front ≡ bytes → xs ≡ bytes ++ rest
+front_bytes w xs front rest bytes e f g = sym (take-append-drop w xs) ∙ ap (λ (t : List ℕ). t ++ drop w xs) (sym e ∙ g) ∙ ap (λ (t : List ℕ). bytes ++ t) (sym f)

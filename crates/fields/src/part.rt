@@ -2,19 +2,15 @@
 ghost use Rattle.std.specs.Prelude.{length, MatchOption, MatchResult};
 ghost use Rattle.fields.specs.Parts.{PartFirst, PartCut, TextFirst, TextWrong};
 
-use crate::number::take_u16;
+use crate::number::take;
 use text::{Text, is_text};
 
 // A part and the bytes after it, or nothing where the bytes end before it does.
 pub fn take_part(bytes: &[u8]) -> Option<(&[u8], &[u8])>
     ensures { MatchOption result (PartCut bytes.now) (λ p. PartFirst p.0.now p.1.now bytes.now) }
 {
-    let (length, rest) = take_u16(bytes)?;
-    let length = usize::from(length);
-    if rest.len() < length {
-        return None;
-    }
-    Some(rest.split_at(length))
+    let (length, rest) = take::<u16>(bytes)?;
+    rest.split_at_checked(usize::from(length))
 }
 
 // Why no text stands at the front: the bytes end before it does, or its bytes are no text.

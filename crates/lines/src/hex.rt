@@ -1,7 +1,6 @@
 // The line of the bytes that stand on another line as hexadecimal text.
-ghost use Rattle.std.specs.Prelude.{◌≡◌, ◌+◌, ◌*◌, ◌<◌, Some, None};
+ghost use Rattle.std.specs.Prelude.{◌≡◌, ◌<◌, IfSome};
 ghost use Rattle.lines.specs.Hex.{digit_of, hexed};
-ghost use Rattle.lines.specs.Pairs.{Paired};
 
 use crate::line::Line;
 
@@ -20,63 +19,25 @@ impl<L: Line> Hex<L> {
 }
 
 impl<L: Line> Line for Hex<L> {
-    ghost waiting = { λ h. hexed (L.Line.waiting h.text) };
+    ghost waiting = { λ h. hexed (L.waiting h.text) };
 
+    // A digit goes together with the character after it, and any other character alone.
     fn take(&mut self) -> Option<u8> {
         loop {
-            match take_pair(&mut self.text) {
-                Pair::Byte(byte) => return Some(byte),
-                Pair::Dropped => {}
-                Pair::End => return None,
+            let Some(high) = digit(self.text.take()?) else {
+                continue;
+            };
+            if let Some(low) = digit(self.text.take()?) {
+                return Some(high * 16 + low);
             }
         }
     }
 }
 
-// What the next characters gave.
-enum Pair {
-    Byte(u8),
-    // they were dropped
-    Dropped,
-    // there are no more
-    End,
-}
-
-// Takes one character and, where it is a digit, the character after it.
-fn take_pair<L: Line>(text: &mut L) -> Pair
-    ensures { Paired result (L.waiting text.old) (L.waiting text.new) }
-{
-    let Some(first) = text.take() else {
-        return Pair::End;
-    };
-    let Some(high) = digit(first) else {
-        return Pair::Dropped;
-    };
-    let Some(second) = text.take() else {
-        return Pair::End;
-    };
-    match digit(second) {
-        Some(low) => Pair::Byte(join(high, low)),
-        None => Pair::Dropped,
-    }
-}
-
-fn join(high: u8, low: u8) -> u8
-    requires { (high < 16) × (low < 16) }
-    ensures { result ≡ high * 16 + low }
-{
-    low + high * 16
-}
-
 // What a hexadecimal digit stands for.
 fn digit(character: u8) -> Option<u8>
     ensures value { result ≡ digit_of character }
-    ensures small { elim result [ Some v ↦ v < 16 | None ↦ Unit {0} ] }
+    ensures small { IfSome result (λ v. v < 16) }
 {
-    match character {
-        b'0'..=b'9' => Some(character - b'0'),
-        b'A'..=b'F' => Some(character - b'A' + 10),
-        b'a'..=b'f' => Some(character - b'a' + 10),
-        _ => None,
-    }
+    char::from(character).to_digit(16).map(|value| value as u8)
 }

@@ -21,12 +21,6 @@ impl Line for Memory<'_> {
     ghost waiting = { λ l. l.rest.now };
 
     fn take(&mut self) -> Option<u8> {
-        match self.rest.split_first() {
-            Some((first, rest)) => {
-                self.rest = rest;
-                Some(*first)
-            }
-            None => None,
-        }
+        self.rest.split_off_first().copied()
     }
 }

@@ -1,7 +1,7 @@
 -- How the header of a message is written.
 use Rattle.std.specs.Prelude.{ℕ, ◌+◌, ◌*◌, ◌^◌, ◌<◌, List, [], ◌∷◌, Some, None, Option}
 use Rattle.basics.specs.Little.{little}
-use Rattle.body.specs.Fields.{flag}
+use Rattle.basics.specs.Bits.{bit}
 use Rattle.message.specs.declared.header.Direction.{Direction}
 use Rattle.message.specs.declared.header.Direction.TheVariants as direction
 use Rattle.message.specs.declared.header.MessageHeader.{MessageHeader}
@@ -27,7 +27,7 @@ FitsTransaction (Some n) = n < 256 ^ 2
 
 -- DIR ERROR NTID END VER(4), where VER is 1
 abbrev pub first_byte : MessageHeader → ℕ
-first_byte h = 64 * direction_bits h.direction + 32 * no_transaction h.transaction + 16 * flag h.last + 1
+first_byte h = 64 * direction_bits h.direction + 32 * no_transaction h.transaction + 16 * bit h.last + 1
 
 abbrev pub header_bytes : MessageHeader → List ℕ
 header_bytes h = first_byte h ∷ h.kind ∷ transaction_bytes h.transaction

@@ -7,7 +7,7 @@ use Rattle.body.specs.declared.fault.MessageRefusal.{MessageRefusal}
 use Rattle.content.specs.Contents.{row_of, Holds}
 use Rattle.content.specs.Rows.{fields, tail}
 use Rattle.content.specs.declared.message.Message.{Message}
-use Rattle.packet.specs.Header.{present}
+use Rattle.basics.specs.Bits.{present}
 use Rattle.packet.specs.declared.header.Header.{Header}
 use Rattle.message.specs.Headers.{header_bytes}
 use Rattle.message.specs.Openings.{Lawful, HeaderRefused}

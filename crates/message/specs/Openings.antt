@@ -1,6 +1,6 @@
 -- Headers at the front of a message, and what is wrong with them.
 use Rattle.std.specs.Prelude.{◌≡◌, ℕ, ◌-◌, ◌/◌, ◌%◌, ◌<◌, ◌≤◌, Bool, List, ◌++◌, length, Option, ◌≢◌, slice_index}
-use Rattle.body.specs.Fields.{flag}
+use Rattle.basics.specs.Bits.{bit}
 use Rattle.body.specs.Places.{place_of}
 use Rattle.body.specs.declared.cursor.Body.{Body}
 use Rattle.body.specs.declared.fault.MessageFault.{MessageFault}
@@ -22,14 +22,14 @@ pub record Opens (h : MessageHeader) (b c : Body) : Type 0 where
 
 -- the transaction o stands at the front of b, or none does, and c follows
 pub record Transacts (absent : Bool) (o : Option ℕ) (b c : Body) : Type 0 where
-  pub told : no_transaction o ≡ flag absent
+  pub told : no_transaction o ≡ bit absent
   pub fits : FitsTransaction o
   pub stands : b.rest.now ≡ transaction_bytes o ++ c.rest.now
   pub ends : c.end ≡ b.end
 
 -- the transaction is cut
 pub record TransactionRefused (absent : Bool) (b : Body) (r : MessageRefusal) : Type 0 where
-  pub asked : flag absent ≡ 0
+  pub asked : bit absent ≡ 0
   pub cut : length b.rest.now < 2
   pub fault : r.fault ≡ fault.TransactionCut
   pub placed : r.place ≡ place_of b

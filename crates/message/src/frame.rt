@@ -4,12 +4,13 @@ ghost use Rattle.message.specs.Frames.{ReadsFrame, RefusedFrame, refusal_number,
 ghost use Rattle.message.specs.declared.frame.ReadRefusal.TheVariants.{Packet as OfPacket, Message as OfMessage};
 
 use crate::read::{Received, read_message};
-use basics::refusal::{Layer, Refusal};
+use basics::refusal::{Fault, Layer, Refusal};
 use body::fault::MessageRefusal;
 use checks::check::Check;
 use packet::fault::PacketFault;
 use packet::header::Header;
 use packet::read::read_packet;
+use std::fmt;
 
 // A packet's header and its message.
 #[derive(Clone, Copy)]
@@ -41,25 +42,36 @@ impl From<MessageRefusal> for ReadRefusal {
     }
 }
 
-impl ReadRefusal {
-    pub fn number(self) -> u8
-        ensures { result ≡ refusal_number self }
-    {
+impl fmt::Display for ReadRefusal {
+    fn fmt<W: fmt::Write>(&self, f: &mut fmt::Formatter<W>) -> fmt::Result {
+        match self {
+            ReadRefusal::Packet(refusal) => write!(f, "{refusal}"),
+            ReadRefusal::Message(refusal) => write!(f, "{refusal}"),
+        }
+    }
+}
+
+impl Fault for ReadRefusal {
+    ghost code = { refusal_number };
+
+    ghost told_by = { refusal_layer };
+
+    fn number(self) -> u8 {
         match self {
             ReadRefusal::Packet(refusal) => refusal.fault.number(),
             ReadRefusal::Message(refusal) => refusal.fault.number(),
         }
     }
 
-    pub fn layer(self) -> Layer
-        ensures { result ≡ refusal_layer self }
-    {
+    fn layer(self) -> Layer {
         match self {
             ReadRefusal::Packet(refusal) => refusal.fault.layer(),
             ReadRefusal::Message(refusal) => refusal.fault.layer(),
         }
     }
+}
 
+impl ReadRefusal {
     pub fn place(self) -> usize
         ensures { result ≡ refusal_place self }
     {
@@ -72,7 +84,7 @@ impl ReadRefusal {
 
 // Reads a packet and its message. What is wrong with the packet goes before what is wrong with the message.
 pub fn read<'a, C: Check>(bytes: &'a [u8]) -> Result<Frame<'a>, ReadRefusal>
-    ensures { MatchResult result (λ f. ReadsFrame C.width C.meaning bytes.now f.header f.received.header f.received.message) (λ e. RefusedFrame C.width C.meaning bytes.now e) }
+    ensures { MatchResult result (λ f. ReadsFrame C.WIDTH C.meaning bytes.now f.header f.received.header f.received.message) (λ e. RefusedFrame C.WIDTH C.meaning bytes.now e) }
 {
     let packet = read_packet::<C>(bytes)?;
     let received = read_message(packet)?;

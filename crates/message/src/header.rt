@@ -1,4 +1,5 @@
 // The header of a message.
+use std::fmt;
 
 // Whether a message asks or answers, and whether the answer tells an error.
 #[derive(Clone, Copy, PartialEq, Eq, Debug)]
@@ -6,6 +7,17 @@ pub enum Direction {
     Request,
     Answer,
     ErrorAnswer,
+}
+
+impl fmt::Display for Direction {
+    fn fmt<W: fmt::Write>(&self, f: &mut fmt::Formatter<W>) -> fmt::Result {
+        let name = match self {
+            Direction::Request => "a request",
+            Direction::Answer => "a good answer",
+            Direction::ErrorAnswer => "an answer that tells an error",
+        };
+        write!(f, "{name}")
+    }
 }
 
 #[derive(Clone, Copy, PartialEq, Eq, Debug)]

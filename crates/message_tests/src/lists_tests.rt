@@ -1,4 +1,5 @@
 // Lists of three entries, in each layout, and the variables of a link.
+use basics::refusal::Fault;
 use body::cursor::Body;
 use body::tail::Variables;
 use channels::entry::Entry;
@@ -6,17 +7,13 @@ use channels::list::{Channels, read_channels};
 use std::process::Abort;
 use std::test::Fail;
 
-// The id, the length of the name and the sub-device of an entry; 0 where it has none.
-fn told(entry: Entry<'_>) -> (u32, usize, u16) {
-    let name = match entry.name {
-        Some(text) => text.bytes.len(),
-        None => 0,
-    };
-    let sub_device = match entry.detail {
-        Some(detail) => detail.sub_device,
-        None => 0,
-    };
-    (entry.id, name, sub_device)
+// The id, the length of the name and the sub-device of an entry.
+fn told(entry: Entry<'_>) -> (u32, Option<usize>, Option<u16>) {
+    (
+        entry.id,
+        entry.name.map(|text| text.bytes.len()),
+        entry.detail.map(|detail| detail.sub_device),
+    )
 }
 
 // Whether the body is a list of the entries 1, 2 and 3, all with such a name and sub-device.
@@ -24,8 +21,8 @@ fn three(
     rt: &impl Abort,
     valued: bool,
     bytes: &[u8],
-    name: usize,
-    sub_device: u16,
+    name: Option<usize>,
+    sub_device: Option<u16>,
 ) -> Result<(), Fail> {
     let Ok(list) = read_channels(valued, Body::new(bytes, 0)) else {
         return Err(Fail::new("refused"));
@@ -53,8 +50,8 @@ fn each_layout(rt: HostRuntime) -> Result<(), Fail> {
         &rt,
         false,
         &[3, 0x40, 1, 0, 0, 0, 2, 0, 0, 0, 3, 0, 0, 0],
-        0,
-        0,
+        None,
+        None,
     )?;
     three(
         &rt,
@@ -62,8 +59,8 @@ fn each_layout(rt: HostRuntime) -> Result<(), Fail> {
         &[
             3, 0, 1, 0, 0, 0, 1, 0, 0x41, 2, 0, 0, 0, 1, 0, 0x42, 3, 0, 0, 0, 1, 0, 0x43,
         ],
-        1,
-        0,
+        Some(1),
+        None,
     )?;
     three(
         &rt,
@@ -71,8 +68,8 @@ fn each_layout(rt: HostRuntime) -> Result<(), Fail> {
         &[
             3, 0xC0, 1, 0, 0, 0, 9, 0, 4, 5, 2, 0, 0, 0, 9, 0, 4, 5, 3, 0, 0, 0, 9, 0, 4, 5,
         ],
-        0,
-        9,
+        None,
+        Some(9),
     )?;
     three(
         &rt,
@@ -81,8 +78,8 @@ fn each_layout(rt: HostRuntime) -> Result<(), Fail> {
             3, 0x80, 1, 0, 0, 0, 1, 0, 0x41, 9, 0, 4, 5, 2, 0, 0, 0, 1, 0, 0x42, 9, 0, 4, 5, 3, 0,
             0, 0, 1, 0, 0x43, 9, 0, 4, 5,
         ],
-        1,
-        9,
+        Some(1),
+        Some(9),
     )
 }
 
@@ -94,28 +91,31 @@ fn with_values(rt: HostRuntime) -> Result<(), Fail> {
         &[
             3, 0x40, 1, 0, 0, 0, 0x83, 7, 2, 0, 0, 0, 0x03, 3, 0, 0, 0, 0x83, 8,
         ],
-        0,
-        0,
+        None,
+        None,
     )
 }
 
-// The number and the place of a refusal, or 0 and 0 for a reading.
-fn outcome(valued: bool, bytes: &[u8]) -> (u8, usize) {
+// Whether a list is read, or the number and the place of the refusal.
+fn outcome(valued: bool, bytes: &[u8]) -> Result<(), (u8, usize)> {
     match read_channels(valued, Body::new(bytes, 0)) {
-        Ok(_) => (0, 0),
-        Err(refusal) => (refusal.fault.number(), refusal.place),
+        Ok(_) => Ok(()),
+        Err(refusal) => Err((refusal.fault.number(), refusal.place)),
     }
 }
 
 #[test]
 fn refused_lists(rt: HostRuntime) {
-    assert_eq!(rt; outcome(false, &[0, 0]), (0, 0));
-    assert_eq!(rt; outcome(false, &[3]), (24, 0));
-    assert_eq!(rt; outcome(false, &[0, 0x10]), (25, 0));
-    assert_eq!(rt; outcome(false, &[0, 0, 7]), (26, 2));
-    assert_eq!(rt; outcome(false, &[2, 0x40, 1, 0, 0, 0, 2, 0]), (24, 6));
-    assert_eq!(rt; outcome(false, &[1, 0, 1, 0, 0, 0, 1, 0, 0xFF]), (27, 6));
-    assert_eq!(rt; outcome(true, &[1, 0x40, 1, 0, 0, 0, 0x83]), (33, 6));
+    assert_eq!(rt; outcome(false, &[0, 0]), Ok(()));
+    assert_eq!(rt; outcome(false, &[3]), Err((24, 0)));
+    assert_eq!(rt; outcome(false, &[0, 0x10]), Err((25, 0)));
+    assert_eq!(rt; outcome(false, &[0, 0, 7]), Err((26, 2)));
+    assert_eq!(rt; outcome(false, &[2, 0x40, 1, 0, 0, 0, 2, 0]), Err((24, 6)));
+    assert_eq!(rt;
+        outcome(false, &[1, 0, 1, 0, 0, 0, 1, 0, 0xFF]),
+        Err((27, 6))
+    );
+    assert_eq!(rt; outcome(true, &[1, 0x40, 1, 0, 0, 0, 0x83]), Err((33, 6)));
 }
 
 #[test]

@@ -1,5 +1,5 @@
 // Each row of the table read and refused, and each number with its place.
-use basics::refusal::Layer;
+use basics::refusal::{Fault, Layer};
 use body::fault::MessageRefusal;
 use checks::check::Check;
 use checks::crc16::Crc16;
@@ -22,16 +22,16 @@ const PLAIN: Header = Header {
     target: None,
 };
 
-// The number and the place of a refusal, or 0 and 0 for a reading.
-fn outcome(reading: Result<Received<'_>, MessageRefusal>) -> (u8, usize) {
+// Whether a message is read, or the number and the place of the refusal.
+fn outcome(reading: Result<Received<'_>, MessageRefusal>) -> Result<(), (u8, usize)> {
     match reading {
-        Ok(_) => (0, 0),
-        Err(refusal) => (refusal.fault.number(), refusal.place),
+        Ok(_) => Ok(()),
+        Err(refusal) => Err((refusal.fault.number(), refusal.place)),
     }
 }
 
 // In a broadcast, whose header has four bytes.
-fn all(message: &[u8]) -> (u8, usize) {
+fn all(message: &[u8]) -> Result<(), (u8, usize)> {
     outcome(read_message(Packet {
         header: PLAIN,
         message,
@@ -39,7 +39,7 @@ fn all(message: &[u8]) -> (u8, usize) {
 }
 
 // In a packet with a target address, whose header has five.
-fn one(message: &[u8]) -> (u8, usize) {
+fn one(message: &[u8]) -> Result<(), (u8, usize)> {
     outcome(read_message(Packet {
         header: Header {
             target: Some(9),
@@ -55,79 +55,82 @@ fn headers(rt: HostRuntime) {
         header: Header { cipher: 1, ..PLAIN },
         message: &[0x32, 0x03],
     };
-    assert_eq!(rt; outcome(read_message(enciphered)), (20, 1));
-    assert_eq!(rt; all(&[0x32, 0x03]), (21, 4));
-    assert_eq!(rt; all(&[0x72, 0x03]), (21, 4));
-    assert_eq!(rt; all(&[0x71, 0x03]), (22, 4));
-    assert_eq!(rt; one(&[0x71, 0x03]), (22, 5));
-    assert_eq!(rt; all(&[0x11, 0x03, 0x07]), (23, 6));
-    assert_eq!(rt; all(&[0x31]), (24, 5));
-    assert_eq!(rt; all(&[]), (24, 4));
+    assert_eq!(rt; outcome(read_message(enciphered)), Err((20, 1)));
+    assert_eq!(rt; all(&[0x32, 0x03]), Err((21, 4)));
+    assert_eq!(rt; all(&[0x72, 0x03]), Err((21, 4)));
+    assert_eq!(rt; all(&[0x71, 0x03]), Err((22, 4)));
+    assert_eq!(rt; one(&[0x71, 0x03]), Err((22, 5)));
+    assert_eq!(rt; all(&[0x11, 0x03, 0x07]), Err((23, 6)));
+    assert_eq!(rt; all(&[0x31]), Err((24, 5)));
+    assert_eq!(rt; all(&[]), Err((24, 4)));
 }
 
 #[test]
 fn parts_errors_and_others(rt: HostRuntime) {
-    assert_eq!(rt; all(&[0x21, 0x03, 0xAA]), (0, 0));
-    assert_eq!(rt; all(&[0xE1, 0x03]), (0, 0));
-    assert_eq!(rt; all(&[0xF1, 0x03, 0x07]), (0, 0));
-    assert_eq!(rt; all(&[0xF1, 0x03]), (24, 6));
-    assert_eq!(rt; all(&[0xF1, 0x03, 0x07, 0x08]), (26, 7));
-    assert_eq!(rt; all(&[0x31, 0x05, 0xAA]), (0, 0));
+    assert_eq!(rt; all(&[0x21, 0x03, 0xAA]), Ok(()));
+    assert_eq!(rt; all(&[0xE1, 0x03]), Ok(()));
+    assert_eq!(rt; all(&[0xF1, 0x03, 0x07]), Ok(()));
+    assert_eq!(rt; all(&[0xF1, 0x03]), Err((24, 6)));
+    assert_eq!(rt; all(&[0xF1, 0x03, 0x07, 0x08]), Err((26, 7)));
+    assert_eq!(rt; all(&[0x31, 0x05, 0xAA]), Ok(()));
 }
 
 #[test]
 fn searches(rt: HostRuntime) {
-    assert_eq!(rt; all(&[0x31, 0x03, 0x0F]), (0, 0));
-    assert_eq!(rt; all(&[0x31, 0x03, 0x1F]), (25, 6));
-    assert_eq!(rt; all(&[0x31, 0x03]), (24, 6));
+    assert_eq!(rt; all(&[0x31, 0x03, 0x0F]), Ok(()));
+    assert_eq!(rt; all(&[0x31, 0x03, 0x1F]), Err((25, 6)));
+    assert_eq!(rt; all(&[0x31, 0x03]), Err((24, 6)));
     let found = [
         0xB1, 0x03, 0x01, 0x02, 0x00, 0x41, 0x42, 0x01, 0x7F, 1, 0, 0, 0, 5, 0,
     ];
-    assert_eq!(rt; all(&found), (0, 0));
+    assert_eq!(rt; all(&found), Ok(()));
     assert_eq!(rt;
         all(&[0xB1, 0x03, 0x01, 0x01, 0x00, 0xFF, 0x01, 0x80]),
-        (27, 7)
+        Err((27, 7))
     );
-    assert_eq!(rt; all(&[0xB1, 0x03, 0x01, 0x05, 0x00, 0x41]), (24, 7));
+    assert_eq!(rt; all(&[0xB1, 0x03, 0x01, 0x05, 0x00, 0x41]), Err((24, 7)));
 }
 
 #[test]
 fn infos(rt: HostRuntime) {
-    assert_eq!(rt; one(&[0x31, 0x04]), (0, 0));
-    assert_eq!(rt; one(&[0x31, 0x04, 0x01, 0x00, 0x41]), (26, 7));
-    assert_eq!(rt; all(&[0x31, 0x04, 0x01, 0x00, 0x41]), (0, 0));
-    assert_eq!(rt; all(&[0x31, 0x04]), (24, 6));
+    assert_eq!(rt; one(&[0x31, 0x04]), Ok(()));
+    assert_eq!(rt; one(&[0x31, 0x04, 0x01, 0x00, 0x41]), Err((26, 7)));
+    assert_eq!(rt; all(&[0x31, 0x04, 0x01, 0x00, 0x41]), Ok(()));
+    assert_eq!(rt; all(&[0x31, 0x04]), Err((24, 6)));
     let mut info = [
         0xB1, 0x04, 1, 1, 0, 0x41, 1, 0, 0x42, 1, 0, 0x43, 1, 0, 0x44, 1, 2, 3, 0x7F, 1, 0, 2, 0,
         1, 0, 0, 0, 2, 0, 0, 0, 7, 0, 0, 0, 9, 0,
     ];
-    assert_eq!(rt; all(&info), (0, 0));
+    assert_eq!(rt; all(&info), Ok(()));
     info[18] = 0xFF;
-    assert_eq!(rt; all(&info), (25, 22));
+    assert_eq!(rt; all(&info), Err((25, 22)));
 }
 
 #[test]
 fn variables(rt: HostRuntime) {
-    assert_eq!(rt; all(&[0x31, 0x10, 0x83, 0xFF, 0x02, 0x01]), (0, 0));
-    assert_eq!(rt; all(&[0x31, 0x10, 0x83, 0xFF, 0x02]), (24, 8));
-    assert_eq!(rt; all(&[0xB1, 0x10]), (0, 0));
-    assert_eq!(rt; all(&[0xB1, 0x10, 0x00]), (26, 6));
-    assert_eq!(rt; all(&[0x31, 0x11, 0x02, 0x01]), (0, 0));
-    assert_eq!(rt; all(&[0x31, 0x11, 0x02]), (24, 6));
-    assert_eq!(rt; all(&[0xB1, 0x11, 0x02, 0x01, 0x03]), (0, 0));
-    assert_eq!(rt; all(&[0xB1, 0x11, 0x02, 0x01, 0x03, 0x00]), (26, 9));
+    assert_eq!(rt; all(&[0x31, 0x10, 0x83, 0xFF, 0x02, 0x01]), Ok(()));
+    assert_eq!(rt; all(&[0x31, 0x10, 0x83, 0xFF, 0x02]), Err((24, 8)));
+    assert_eq!(rt; all(&[0xB1, 0x10]), Ok(()));
+    assert_eq!(rt; all(&[0xB1, 0x10, 0x00]), Err((26, 6)));
+    assert_eq!(rt; all(&[0x31, 0x11, 0x02, 0x01]), Ok(()));
+    assert_eq!(rt; all(&[0x31, 0x11, 0x02]), Err((24, 6)));
+    assert_eq!(rt; all(&[0xB1, 0x11, 0x02, 0x01, 0x03]), Ok(()));
+    assert_eq!(rt; all(&[0xB1, 0x11, 0x02, 0x01, 0x03, 0x00]), Err((26, 9)));
 }
 
 #[test]
 fn values(rt: HostRuntime) -> Result<(), Fail> {
-    assert_eq!(rt; all(&[0xB1, 0x11, 0x02, 0x01, 0x90]), (30, 8));
-    assert_eq!(rt; all(&[0xB1, 0x11, 0x02, 0x01, 0x81]), (31, 8));
-    assert_eq!(rt; all(&[0xB1, 0x11, 0x02, 0x01, 0xA3]), (32, 8));
-    assert_eq!(rt; all(&[0xB1, 0x11, 0x02, 0x01, 0x83]), (33, 8));
-    assert_eq!(rt; all(&[0xB1, 0x11, 0x02, 0x01, 0x8C, 1, 0, 0xFF]), (34, 8));
+    assert_eq!(rt; all(&[0xB1, 0x11, 0x02, 0x01, 0x90]), Err((30, 8)));
+    assert_eq!(rt; all(&[0xB1, 0x11, 0x02, 0x01, 0x81]), Err((31, 8)));
+    assert_eq!(rt; all(&[0xB1, 0x11, 0x02, 0x01, 0xA3]), Err((32, 8)));
+    assert_eq!(rt; all(&[0xB1, 0x11, 0x02, 0x01, 0x83]), Err((33, 8)));
+    assert_eq!(rt;
+        all(&[0xB1, 0x11, 0x02, 0x01, 0x8C, 1, 0, 0xFF]),
+        Err((34, 8))
+    );
     assert_eq!(rt;
         all(&[0xB1, 0x11, 0x02, 0x01, 0x8E, 0, 0, 0, 2, 0, 0, 0, 0]),
-        (35, 8)
+        Err((35, 8))
     );
     let packet = Packet {
         header: PLAIN,
@@ -144,18 +147,18 @@ fn values(rt: HostRuntime) -> Result<(), Fail> {
 
 #[test]
 fn channels(rt: HostRuntime) {
-    assert_eq!(rt; all(&[0x31, 0x33, 1, 0, 0, 0, 0x83, 7, 4, 0, 0, 0]), (0, 0));
-    assert_eq!(rt; all(&[0x31, 0x33, 1, 0, 0, 0, 0x83, 7, 4]), (24, 12));
-    assert_eq!(rt; all(&[0xB1, 0x33]), (0, 0));
-    assert_eq!(rt; all(&[0xB1, 0x33, 0x01]), (26, 6));
-    assert_eq!(rt; all(&[0x31, 0x34, 1, 0, 0, 0, 2, 1, 4, 3]), (0, 0));
-    assert_eq!(rt; all(&[0x31, 0x34, 1, 0, 0, 0, 2]), (28, 10));
+    assert_eq!(rt; all(&[0x31, 0x33, 1, 0, 0, 0, 0x83, 7, 4, 0, 0, 0]), Ok(()));
+    assert_eq!(rt; all(&[0x31, 0x33, 1, 0, 0, 0, 0x83, 7, 4]), Err((24, 12)));
+    assert_eq!(rt; all(&[0xB1, 0x33]), Ok(()));
+    assert_eq!(rt; all(&[0xB1, 0x33, 0x01]), Err((26, 6)));
+    assert_eq!(rt; all(&[0x31, 0x34, 1, 0, 0, 0, 2, 1, 4, 3]), Ok(()));
+    assert_eq!(rt; all(&[0x31, 0x34, 1, 0, 0, 0, 2]), Err((28, 10)));
     let mut many = [0; 40];
     many[0] = 0x31;
     many[1] = 0x34;
-    assert_eq!(rt; all(&many), (28, 10));
-    assert_eq!(rt; all(&[0xB1, 0x34]), (0, 0));
-    assert_eq!(rt; all(&[0xB1, 0x34, 0x01]), (26, 6));
+    assert_eq!(rt; all(&many), Err((28, 10)));
+    assert_eq!(rt; all(&[0xB1, 0x34]), Ok(()));
+    assert_eq!(rt; all(&[0xB1, 0x34, 0x01]), Err((26, 6)));
 }
 
 #[test]

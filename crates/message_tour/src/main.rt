@@ -2,7 +2,6 @@
 #![tactic(auto)]
 
 mod messages;
-mod show;
 
 use std::io;
 

@@ -1,11 +1,14 @@
 -- The bits of the two flag bytes.
 -- Assumes nothing.
-use Rattle.std.proofs.Common.{◌≡◌, ℕ, zero, suc, ◌+◌, ◌*◌, ◌/◌, ◌%◌, ◌^◌, ◌<◌, ◌≤◌, Bool, true, false, T, eqb, MatchBool, sym, refl, ap, ◌∙◌, subst, arith, eqb→eq}
+use Rattle.std.proofs.Common.{◌≡◌, ℕ, zero, suc, ◌+◌, ◌*◌, ◌/◌, ◌%◌, ◌^◌, ◌<◌, ◌≤◌, Bool, true, false, T, eqb, sym, refl, ap, ◌∙◌, subst, arith, eqb→eq}
+use Rattle.std.specs.Prelude.{IsTrue, ◌↔◌}
+use Rattle.std.proofs.lemmas.Bool.{false≢true}
 use lib.Bits.{bit_and, bit_or, and_high, or_shifted}
 use lib.Count.{ones, ones_step, ones_cat}
 use Rattle.basics.proofs.Tables.{below}
 use Rattle.packet.specs.Raw.{flag}
-use Rattle.packet.specs.Header.{bit, first_byte}
+use Rattle.basics.specs.Bits.{bit}
+use Rattle.packet.specs.Header.{first_byte}
 use Rattle.packet.specs.Faults.{Opens}
 
 ones_0 : ones 0 ≡ 0
@@ -44,9 +47,9 @@ bit_eqb (suc zero) h = refl
 bit_eqb (suc (suc n)) h = absurd (omega arith)
 
 -- a test that decides a fact
-pub decided : (b : Bool) (P : Type 0) → (T b → P) → (P → T b) → MatchBool b P (P → ⊥)
-decided true P f g = f tt
-decided false P f g = λ x. g x
+pub decided : (b : Bool) (P : Type 0) → (T b → P) → (P → T b) → IsTrue b ↔ P
+decided true P f g = ((λ _. f tt), λ _. refl)
+decided false P f g = ((λ e. absurd (false≢true e)), λ x. absurd (g x))
 
 -- two tests that come out alike
 abbrev alike : Bool → Bool → Bool

@@ -4,7 +4,8 @@ use Rattle.std.proofs.Common.{◌≡◌, ℕ, ◌+◌, ◌<◌, ◌≤◌, Bool,
 use Rattle.std.proofs.lemmas.List.{drop_more, get_or-drop}
 use Rattle.packet.specs.declared.header.Header.{Header}
 use Rattle.packet.specs.Raw.{byte, flag, version, cipher, header_length, size_place, size}
-use Rattle.packet.specs.Header.{bit, present, field, Below, Lawful, first_byte, second_byte, header_bytes}
+use Rattle.basics.specs.Bits.{bit, present}
+use Rattle.packet.specs.Header.{field, Below, Lawful, first_byte, second_byte, header_bytes}
 use Rattle.packet.specs.Fields.{FieldAt}
 use Rattle.packet.specs.Measured.{LawfulStart}
 use Rattle.packet.proofs.Bits.{bit_most}

@@ -4,31 +4,24 @@ use Rattle.std.proofs.Common.{◌≡◌, ℕ, ◌+◌, ◌-◌, ◌<◌, ◌≤�
 use Rattle.std.proofs.lemmas.List.{take_all, drop-drop, take-append-drop}
 use Rattle.basics.specs.Bytes.{Bytes}
 use Rattle.basics.specs.Little.{little}
-use Rattle.basics.proofs.Bytewise.{bytes_take, bytes_drop}
+use Rattle.basics.proofs.Bytewise.{bytes_take, bytes_drop, byte_below}
 use Rattle.packet.specs.declared.header.Header.{Header}
 use Rattle.packet.specs.declared.fault.PacketFault.{PacketFault}
 use Rattle.packet.specs.declared.fault.PacketFault.TheVariants.{CutShort, FirstByte, Version, Cipher, Route, Size, Check, LeftOver}
-use Rattle.packet.specs.Raw.{header_length, size, end, check_place, message, check_bytes}
+use Rattle.packet.specs.Raw.{header_length, size_place, size, end, check_place, message, check_bytes}
 use Rattle.packet.specs.Header.{Lawful, header_bytes}
 use Rattle.packet.specs.Packet.{Reads}
 use Rattle.packet.specs.Numbers.{number}
 use Rattle.packet.specs.Faults.{Wrong, place, Refused}
-use Rattle.packet.specs.Measured.{Measured}
+use Rattle.packet.specs.Measured.{Measured, Agrees}
 use Rattle.packet.proofs.Laid.{sound}
 
--- the parts of data that are all there; the code has the width of the check as v
+-- the parts of data that are all there
 module _ {w : ℕ} {p : List ℕ} {header stop : ℕ} (m : Measured w p header stop) where
-  pub message_part : (v : ℕ) → v ≡ w → take (stop - v - header) (drop header p) ≡ message w p
-  message_part v f =
-      let e : stop - v - header ≡ size p - w = omega (arith, m.header_is, m.end_is) in
+  pub message_part : (k : ℕ) → k ≡ check_place w p → take (k - header) (drop header p) ≡ message w p
+  message_part k f =
+      let e : k - header ≡ size p - w = omega (arith, m.header_is) in
       ap (λ k. take k (drop header p)) e ∙ ap (λ k. take (size p - w) (drop k p)) m.header_is
-
-  check_part : (v : ℕ) → v ≡ w → take (stop - (stop - v)) (drop (stop - v) p) ≡ check_bytes w p
-  check_part v f =
-      let s = m.size_least in
-      let e : stop - (stop - v) ≡ w = omega (arith, m.end_is) in
-      let g : stop - v ≡ check_place w p = omega (arith, m.end_is) in
-      ap (λ k. take k (drop (stop - v) p)) e ∙ ap (λ k. take w (drop k p)) g
 
   length_check : end p ≤ length p → length (check_bytes w p) ≡ w
   length_check l = let s = m.size_least in simp (length-take, length-drop) (omega arith)
@@ -46,24 +39,12 @@ module _ {w : ℕ} {p : List ℕ} {header stop : ℕ} (m : Measured w p header s
       (drop-drop (size p - w) (header_length p) p ∙ ap (λ k. drop k p) e ∙ sym (take_all w (drop (check_place w p) p) (omega arith)))
 
 module _ {w : ℕ} {p : List ℕ} {header stop : ℕ} (check : List ℕ → ℕ) (m : Measured w p header stop) where
-  -- the check's bytes, as the code cuts them out and compares them
-  module _ (v : ℕ) (f : v ≡ w) (l : end p ≤ length p) (n : ℕ) (e : n ≡ check (take (stop - v - header) (drop header p))) where
-    found : List ℕ
-    found = take (stop - (stop - v)) (drop (stop - v) p)
+  -- where the check is all there, agreeing so far is agreeing
+  pub agreed : end p ≤ length p → Agrees w check p → check_bytes w p ≡ little w (check (message w p))
+  agreed l a = a ∙ ap (λ k. little k (check (message w p))) (length_check m l)
 
-    spelled : little (length found) n ≡ little w (check (message w p))
-    unfolding found
-    spelled =
-        ap (λ k. little k n) (ap length (check_part m v f) ∙ length_check m l)
-        ∙ ap (little w) (e ∙ ap check (message_part m v f))
-
-    pub agrees : take (stop - (stop - v)) (drop (stop - v) p) ≡ little (length (take (stop - (stop - v)) (drop (stop - v) p))) n → check_bytes w p ≡ little w (check (message w p))
-    unfolding found
-    agrees x = sym (check_part m v f) ∙ x ∙ spelled
-
-    pub agreed : check_bytes w p ≡ little w (check (message w p)) → take (stop - (stop - v)) (drop (stop - v) p) ≡ little (length (take (stop - (stop - v)) (drop (stop - v) p))) n
-    unfolding found
-    agreed x = check_part m v f ∙ x ∙ sym spelled
+  pub agrees : end p ≤ length p → check_bytes w p ≡ little w (check (message w p)) → Agrees w check p
+  agrees l e = e ∙ ap (λ k. little k (check (message w p))) (sym (length_check m l))
 
   abbrev Before : PacketFault → PacketFault → Type 0
   Before f g = (place w p f ≤ place w p g) × (place w p f ≡ place w p g → number f ≤ number g)
@@ -95,10 +76,11 @@ module _ {w : ℕ} {p : List ℕ} {header stop : ℕ} (check : List ℕ → ℕ)
   left_over k e l a =
       refused LeftOver k e l (behind LeftOver (λ x. absurd (omega (arith, x))) (λ x. absurd (x.2 a)) (λ x. (omega arith, λ e. omega arith)))
 
-  pub reading : (h : Header) → Lawful h → Bytes p → size p ≤ 255 → length p ≡ end p → check_bytes w p ≡ little w (check (message w p))
+  pub reading : (h : Header) → Lawful h → Bytes p → length p ≡ end p → check_bytes w p ≡ little w (check (message w p))
       → p ≡ header_bytes h (size p) ++ drop (header_length p) p → Reads w check p h (message w p)
-  reading h l b z n a e =
+  reading h l b n a e =
       let s = m.size_least in
+      let z : size p < 256 = byte_below p b (size_place p) in
       let k = length_message m (omega arith) in
       let f : size p ≡ length (message w p) + w = omega arith in
       record {

@@ -8,7 +8,8 @@ use Rattle.packet.specs.declared.header.Header.{Header}
 use Rattle.packet.specs.declared.fault.PacketFault.{PacketFault}
 use Rattle.packet.specs.declared.fault.PacketFault.TheVariants.{CutShort, FirstByte, Version, Cipher, Route, Size, Check, LeftOver}
 use Rattle.packet.specs.Raw.{byte, flag, header_length, size, end, check_place, message, check_bytes}
-use Rattle.packet.specs.Header.{bit, present, field, Below, Lawful, first_byte, second_byte, header_bytes}
+use Rattle.basics.specs.Bits.{bit, present}
+use Rattle.packet.specs.Header.{field, Below, Lawful, first_byte, second_byte, header_bytes}
 use Rattle.packet.specs.Packet.{Reads, Packet}
 use Rattle.packet.specs.Faults.{Opens, Wrong}
 use Rattle.packet.proofs.Bits.{bit_most}

@@ -5,7 +5,8 @@ use mathlib.Core.List.{head-eq_of_cons-eq, tail-eq_of_cons-eq}
 use Rattle.std.proofs.lemmas.List.{take_at}
 use Rattle.basics.specs.Little.{little}
 use Rattle.packet.specs.declared.header.Header.{Header}
-use Rattle.packet.specs.Header.{bit, present, field, Lawful, header_bytes}
+use Rattle.basics.specs.Bits.{bit, present}
+use Rattle.packet.specs.Header.{field, Lawful, header_bytes}
 use Rattle.packet.specs.Packet.{OneReading}
 use Rattle.packet.specs.Raw.{flag}
 use Rattle.packet.proofs.Laid.{flags_of}

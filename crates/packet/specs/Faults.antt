@@ -4,7 +4,8 @@ use Rattle.basics.specs.Little.{little}
 use Rattle.packet.specs.declared.fault.PacketFault.{PacketFault}
 use Rattle.packet.specs.declared.fault.PacketFault.TheVariants.{CutShort, FirstByte, Version, Cipher, Route, Size, Check, LeftOver}
 use Rattle.packet.specs.Raw.{byte, flag, version, cipher, size_place, size, end, check_place, message, check_bytes}
-use Rattle.packet.specs.Header.{bit, first_byte}
+use Rattle.basics.specs.Bits.{bit}
+use Rattle.packet.specs.Header.{first_byte}
 use Rattle.packet.specs.Packet.{Packet}
 use Rattle.packet.specs.Numbers.{number}
 

@@ -1,15 +1,7 @@
 -- How a lawful header is written.
-use Rattle.std.specs.Prelude.{ℕ, ◌+◌, ◌*◌, ◌<◌, ◌≤◌, Bool, true, false, List, [], ◌∷◌, ◌++◌, Some, None, Option}
+use Rattle.std.specs.Prelude.{ℕ, ◌+◌, ◌*◌, ◌<◌, ◌≤◌, List, [], ◌∷◌, ◌++◌, Some, None, Option}
+use Rattle.basics.specs.Bits.{bit, present}
 use Rattle.packet.specs.declared.header.Header.{Header}
-
-abbrev pub bit : Bool → ℕ
-bit true = 1
-bit false = 0
-
--- whether an optional field stands in the packet
-abbrev pub present : Option ℕ → ℕ
-present None = 0
-present (Some x) = 1
 
 -- the bytes of an optional field
 abbrev pub field : Option ℕ → List ℕ

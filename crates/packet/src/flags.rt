@@ -1,22 +1,23 @@
 // The two flag bytes that a header begins with: PRI 1 1 1 ADR 1 0 1, and ADD SSEG DSEG VER(2) CIPH(3).
-ghost use Rattle.std.specs.Prelude.{◌≡◌, ◌+◌, ◌/◌, ◌%◌, ◌<◌, ◌≤◌, MatchBool, slice_index};
+ghost use Rattle.std.specs.Prelude.{◌≡◌, ◌+◌, ◌/◌, ◌%◌, ◌<◌, ◌≤◌, ◌↔◌, IsTrue, slice_index};
+ghost use Rattle.basics.specs.Bits.{bit};
 ghost use Rattle.packet.specs.Raw.{flag};
-ghost use Rattle.packet.specs.Header.{bit};
 ghost use Rattle.packet.specs.Faults.{Opens};
+
+use basics::bits;
 
 // Whether a packet may begin with `first`: every bit but PRI and ADR is fixed.
 pub(crate) fn opens(first: u8) -> bool
-    ensures { MatchBool result (Opens first) (Opens first → ⊥) }
+    ensures { IsTrue result ↔ Opens first }
 {
     first & 0x77 == 0x75
 }
 
 // The bit `k` of `byte`.
 pub(crate) fn is_set(byte: u8, k: u8) -> bool
-    requires { k < 8 }
     ensures { bit result ≡ flag byte k }
 {
-    (byte >> k) & 1 == 1
+    bits::is_set(u16::from(byte), k)
 }
 
 // VER of the second byte.
@@ -41,9 +42,9 @@ pub(crate) fn optional_fields(first: u8, second: u8) -> usize
     ((second & 0xE0) | (first & 0x08)).count_ones() as usize
 }
 
-// The byte at `k`, or 0 where there is none.
+// The byte at `k`, or 0 where there is none, as the definitions count it: an Option would be made 0 at each use.
 pub(crate) fn byte_at(bytes: &[u8], k: usize) -> u8
     ensures { result ≡ slice_index bytes.now k }
 {
-    if k < bytes.len() { bytes[k] } else { 0 }
+    bytes.get(k).copied().unwrap_or(0)
 }

@@ -1,7 +1,7 @@
 // The header of a packet.
 ghost use Rattle.std.specs.Prelude.{◌≡◌, ◌+◌};
 ghost use Rattle.packet.specs.Raw.{flag};
-ghost use Rattle.packet.specs.Header.{bit, present};
+ghost use Rattle.basics.specs.Bits.{bit, present};
 
 use crate::flags::optional_fields;
 

@@ -1,20 +1,20 @@
 // Reading a packet.
-ghost use Rattle.std.specs.Prelude.{◌≡◌, ℕ, ◌+◌, ◌<◌, ◌≤◌, ◌++◌, length, drop, MatchResult};
-ghost use Rattle.basics.specs.Little.{little};
-ghost use Rattle.packet.specs.Raw.{header_length, size, message, check_bytes};
-ghost use Rattle.packet.specs.Header.{bit, Lawful, header_bytes};
+ghost use Rattle.std.specs.Prelude.{◌≡◌, ◌+◌, ◌≤◌, ◌++◌, length, drop, MatchResult};
+ghost use Rattle.packet.specs.Raw.{header_length, size};
+ghost use Rattle.basics.specs.Bits.{bit};
+ghost use Rattle.basics.specs.Bytes.{Bytes};
+ghost use Rattle.packet.specs.Header.{Lawful, header_bytes};
 ghost use Rattle.packet.specs.Fields.{FieldAt};
 ghost use Rattle.packet.specs.Packet.{Reads};
 ghost use Rattle.packet.specs.Faults.{Refused};
-ghost use Rattle.packet.specs.Measured.{LawfulStart, Measured};
+ghost use Rattle.packet.specs.Measured.{LawfulStart, Complete};
 
 use crate::fault::PacketFault;
 use crate::flags::{cipher, is_set, version};
 use crate::header::Header;
 use crate::measure::{Extent, measure};
-use basics::number::are_lowest_bytes;
 use basics::refusal::Refusal;
-use checks::check::{Check, check_of};
+use checks::check::Check;
 
 // A packet that was read: its header, and its message, which is a part of the bytes given.
 #[derive(Clone, Copy)]
@@ -39,6 +39,7 @@ fn optional(bytes: &[u8], at: usize, there: bool) -> (Option<u8>, usize)
 fn read_header(bytes: &[u8]) -> Header
     requires start { LawfulStart bytes.now }
     requires there { header_length bytes.now ≤ length bytes.now }
+    ensures bytes { Bytes bytes.now }
     ensures lawful { Lawful result }
     ensures written { bytes.now ≡ header_bytes result (size bytes.now) ++ drop (header_length bytes.now) bytes.now }
 {
@@ -62,46 +63,38 @@ fn read_header(bytes: &[u8]) -> Header
 }
 
 // Whether the data are all there, agree with their check, and end the bytes given.
-fn judge<C: Check>(bytes: &[u8], extent: Extent) -> Result<(), Refusal<PacketFault>>
-    requires { Measured C.width bytes.now extent.header extent.end }
-    ensures { MatchResult result (λ _. (length bytes.now ≡ extent.end) × (check_bytes C.width bytes.now ≡ little C.width (C.meaning (message C.width bytes.now)))) (λ e. Refused C.width C.meaning bytes.now e.fault e.place) }
+fn judge<C: Check>(extent: Extent<'_, C>) -> Result<(), Refusal<PacketFault>>
+    ensures { MatchResult result (λ _. Complete C.WIDTH C.meaning extent.entry.bytes.now) (λ e. Refused C.WIDTH C.meaning extent.entry.bytes.now e.fault e.place) }
 {
-    let Extent { header, end } = extent;
-    let given = bytes.len();
-    if given < end {
+    let given = extent.bytes.len();
+    if given < extent.end {
         return Err(Refusal::at(given, PacketFault::CutShort));
     }
-    let w = C::bytes();
-    let check_place = end - w;
-    let number = check_of::<C>(&bytes[header..check_place]);
-    if !are_lowest_bytes(&bytes[check_place..end], number) {
-        return Err(Refusal::at(check_place, PacketFault::Check));
+    if !extent.agrees() {
+        return Err(Refusal::at(extent.check_place(), PacketFault::Check));
     }
-    if given > end {
-        return Err(Refusal::at(end, PacketFault::LeftOver));
+    if given > extent.end {
+        return Err(Refusal::at(extent.end, PacketFault::LeftOver));
     }
     Ok(())
 }
 
 // The parts of bytes that were judged.
-fn take_apart<'a, C: Check>(bytes: &'a [u8], extent: Extent) -> Packet<'a>
-    requires measured { Measured C.width bytes.now extent.header extent.end }
-    requires whole { (length bytes.now ≡ extent.end) × (check_bytes C.width bytes.now ≡ little C.width (C.meaning (message C.width bytes.now))) }
-    ensures { Reads C.width C.meaning bytes.now result.header result.message.now }
+fn take_apart<'a, C: Check>(extent: Extent<'a, C>) -> Packet<'a>
+    requires { Complete C.WIDTH C.meaning extent.bytes.now }
+    ensures { Reads C.WIDTH C.meaning extent.entry.bytes.now result.header result.message.now }
 {
-    let Extent { header, end } = extent;
-    let w = C::bytes();
     Packet {
-        header: read_header(bytes),
-        message: &bytes[header..end - w],
+        header: read_header(extent.bytes),
+        message: &extent.bytes[extent.header..extent.check_place()],
     }
 }
 
 // Reads a packet: its header and its message, or what is wrong with the bytes and where.
-pub fn read_packet<'a, C: Check>(bytes: &'a [u8]) -> Result<Packet<'a>, Refusal<PacketFault>>
-    ensures { MatchResult result (λ k. Reads C.width C.meaning bytes.now k.header k.message.now) (λ e. Refused C.width C.meaning bytes.now e.fault e.place) }
+pub fn read_packet<C: Check>(bytes: &[u8]) -> Result<Packet<'_>, Refusal<PacketFault>>
+    ensures { MatchResult result (λ k. Reads C.WIDTH C.meaning bytes.now k.header k.message.now) (λ e. Refused C.WIDTH C.meaning bytes.now e.fault e.place) }
 {
     let extent = measure::<C>(bytes)?;
-    judge::<C>(bytes, extent)?;
-    Ok(take_apart::<C>(bytes, extent))
+    judge(extent)?;
+    Ok(take_apart(extent))
 }

@@ -1,28 +1,19 @@
 // Packets that are read, and bytes that are refused: the fault's number and its place.
-use basics::refusal::Refusal;
+use basics::refusal::Fault;
 use checks::check::Check;
 use checks::crc16::Crc16;
 use checks::xor::Xor;
-use packet::fault::PacketFault;
 use packet::header::{Header, header_length};
 use packet::measure::measure;
-use packet::read::{Packet, read_packet};
+use packet::read::read_packet;
 use std::test::Fail;
 
-// The number and the place of a refusal, or the message's length behind 0.
-fn told(reading: Result<Packet<'_>, Refusal<PacketFault>>) -> (u8, usize) {
-    match reading {
-        Ok(packet) => (0, packet.message.len()),
-        Err(refusal) => (refusal.fault.number(), refusal.place),
+// The message's length, or the number and the place of a refusal.
+fn told<C: Check>(bytes: &[u8]) -> Result<usize, (u8, usize)> {
+    match read_packet::<C>(bytes) {
+        Ok(packet) => Ok(packet.message.len()),
+        Err(refusal) => Err((refusal.fault.number(), refusal.place)),
     }
-}
-
-fn crc16(bytes: &[u8]) -> (u8, usize) {
-    told(read_packet::<Crc16>(bytes))
-}
-
-fn xor(bytes: &[u8]) -> (u8, usize) {
-    told(read_packet::<Xor>(bytes))
 }
 
 const PLAIN: Header = Header {
@@ -104,97 +95,127 @@ fn fields_that_are_zero(rt: HostRuntime) -> Result<(), Fail> {
 #[test]
 fn a_recorded_packet_damaged(rt: HostRuntime) {
     assert_eq!(rt;
-        crc16(&[
+        told::<Crc16>(&[
             0x75, 0x08, 0x08, 0x05, 0x11, 0x11, 0x07, 0x00, 0x02, 0x01, 0x3E, 0x8C,
         ],),
-        (16, 10)
+        Err((16, 10))
     );
     assert_eq!(rt;
-        crc16(&[
+        told::<Crc16>(&[
             0x75, 0x08, 0x08, 0x05, 0x11, 0x11, 0x07, 0x00, 0x02, 0x01, 0x3E, 0x8D, 0x00,
         ],),
-        (17, 12)
+        Err((17, 12))
     );
     assert_eq!(rt;
-        crc16(&[
+        told::<Crc16>(&[
             0x75, 0x08, 0x08, 0x05, 0x11, 0x11, 0x07, 0x00, 0x02, 0x01, 0x3E,
         ],),
-        (10, 11)
+        Err((10, 11))
     );
     assert_eq!(rt;
-        crc16(&[
+        told::<Crc16>(&[
             0x75, 0x08, 0x03, 0x05, 0x11, 0x11, 0x07, 0x00, 0x02, 0x01, 0x3E, 0x8D,
         ],),
-        (15, 2)
+        Err((15, 2))
     );
     // the check is judged before the bytes left over, and not in data that are cut short
     assert_eq!(rt;
-        crc16(&[
+        told::<Crc16>(&[
             0x75, 0x08, 0x08, 0x05, 0x11, 0x11, 0x07, 0x00, 0x02, 0x01, 0x3E, 0x8C, 0x00,
         ],),
-        (16, 10)
+        Err((16, 10))
     );
     assert_eq!(rt;
-        crc16(&[
+        told::<Crc16>(&[
             0x75, 0x08, 0x08, 0x05, 0x11, 0x11, 0x07, 0x00, 0x02, 0x01, 0x00,
         ],),
-        (10, 11)
+        Err((10, 11))
     );
 }
 
 #[test]
 fn cut_short(rt: HostRuntime) {
-    assert_eq!(rt; xor(&[]), (10, 0));
-    assert_eq!(rt; xor(&[0x75]), (10, 1));
-    assert_eq!(rt; xor(&[0x75, 0x08]), (10, 2));
-    assert_eq!(rt; xor(&[0x75, 0x88]), (10, 2));
-    assert_eq!(rt; xor(&[0x75, 0x88, 0x0F]), (10, 3));
-    assert_eq!(rt; xor(&[0x75, 0x08, 0x03]), (10, 3));
-    assert_eq!(rt; xor(&[0x75, 0x08, 0x03, 0x05, 0xAA, 0x55]), (10, 6));
-    assert_eq!(rt; xor(&[0x75, 0x08, 0x03, 0x05, 0xAA, 0x55, 0xFF]), (0, 2));
+    assert_eq!(rt; told::<Xor>(&[]), Err((10, 0)));
+    assert_eq!(rt; told::<Xor>(&[0x75]), Err((10, 1)));
+    assert_eq!(rt; told::<Xor>(&[0x75, 0x08]), Err((10, 2)));
+    assert_eq!(rt; told::<Xor>(&[0x75, 0x88]), Err((10, 2)));
+    assert_eq!(rt; told::<Xor>(&[0x75, 0x88, 0x0F]), Err((10, 3)));
+    assert_eq!(rt; told::<Xor>(&[0x75, 0x08, 0x03]), Err((10, 3)));
+    assert_eq!(rt;
+        told::<Xor>(&[0x75, 0x08, 0x03, 0x05, 0xAA, 0x55]),
+        Err((10, 6))
+    );
+    assert_eq!(rt;
+        told::<Xor>(&[0x75, 0x08, 0x03, 0x05, 0xAA, 0x55, 0xFF]),
+        Ok(2)
+    );
 }
 
 #[test]
 fn first_byte(rt: HostRuntime) {
-    assert_eq!(rt; xor(&[0x00]), (11, 0));
-    assert_eq!(rt; xor(&[0x74, 0x08, 0x03, 0x05, 0xAA, 0x55, 0xFF]), (11, 0));
-    assert_eq!(rt; xor(&[0x77, 0x08, 0x03, 0x05, 0xAA, 0x55, 0xFF]), (11, 0));
-    assert_eq!(rt; xor(&[0x65, 0x08, 0x03, 0x05, 0xAA, 0x55, 0xFF]), (11, 0));
-    assert_eq!(rt; xor(&[0xF5, 0x08, 0x03, 0x05, 0xAA, 0x55, 0xFF]), (0, 2));
+    assert_eq!(rt; told::<Xor>(&[0x00]), Err((11, 0)));
     assert_eq!(rt;
-        xor(&[0x7D, 0x08, 0x03, 0x05, 0x00, 0xAA, 0x55, 0xFF]),
-        (0, 2)
+        told::<Xor>(&[0x74, 0x08, 0x03, 0x05, 0xAA, 0x55, 0xFF]),
+        Err((11, 0))
+    );
+    assert_eq!(rt;
+        told::<Xor>(&[0x77, 0x08, 0x03, 0x05, 0xAA, 0x55, 0xFF]),
+        Err((11, 0))
+    );
+    assert_eq!(rt;
+        told::<Xor>(&[0x65, 0x08, 0x03, 0x05, 0xAA, 0x55, 0xFF]),
+        Err((11, 0))
+    );
+    assert_eq!(rt;
+        told::<Xor>(&[0xF5, 0x08, 0x03, 0x05, 0xAA, 0x55, 0xFF]),
+        Ok(2)
+    );
+    assert_eq!(rt;
+        told::<Xor>(&[0x7D, 0x08, 0x03, 0x05, 0x00, 0xAA, 0x55, 0xFF]),
+        Ok(2)
     );
 }
 
 // Of two faults of one byte the lower number is told; of two bytes, the earlier.
 #[test]
 fn version_and_cipher(rt: HostRuntime) {
-    assert_eq!(rt; xor(&[0x75, 0x00, 0x03, 0x05, 0xAA, 0x55, 0xFF]), (12, 1));
-    assert_eq!(rt; xor(&[0x75, 0x0C, 0x03, 0x05, 0xAA, 0x55, 0xFF]), (13, 1));
-    assert_eq!(rt; xor(&[0x75, 0x04]), (12, 1));
-    assert_eq!(rt; xor(&[0x75, 0x0B, 0x03, 0x05, 0xAA, 0x55, 0xFF]), (0, 2));
-    assert_eq!(rt; xor(&[0x75, 0x18, 0x03, 0x05, 0xAA, 0x55, 0xFF]), (0, 2));
+    assert_eq!(rt;
+        told::<Xor>(&[0x75, 0x00, 0x03, 0x05, 0xAA, 0x55, 0xFF]),
+        Err((12, 1))
+    );
+    assert_eq!(rt;
+        told::<Xor>(&[0x75, 0x0C, 0x03, 0x05, 0xAA, 0x55, 0xFF]),
+        Err((13, 1))
+    );
+    assert_eq!(rt; told::<Xor>(&[0x75, 0x04]), Err((12, 1)));
+    assert_eq!(rt;
+        told::<Xor>(&[0x75, 0x0B, 0x03, 0x05, 0xAA, 0x55, 0xFF]),
+        Ok(2)
+    );
+    assert_eq!(rt;
+        told::<Xor>(&[0x75, 0x18, 0x03, 0x05, 0xAA, 0x55, 0xFF]),
+        Ok(2)
+    );
 }
 
 #[test]
 fn route_and_size(rt: HostRuntime) {
     assert_eq!(rt;
-        xor(&[0x75, 0x88, 0x10, 0x03, 0x05, 0xAA, 0x55, 0xFF]),
-        (14, 2)
+        told::<Xor>(&[0x75, 0x88, 0x10, 0x03, 0x05, 0xAA, 0x55, 0xFF]),
+        Err((14, 2))
     );
-    assert_eq!(rt; xor(&[0x75, 0x88, 0x10]), (14, 2));
+    assert_eq!(rt; told::<Xor>(&[0x75, 0x88, 0x10]), Err((14, 2)));
     assert_eq!(rt;
-        xor(&[0x75, 0x88, 0x0F, 0x03, 0x05, 0xAA, 0x55, 0xFF]),
-        (0, 2)
+        told::<Xor>(&[0x75, 0x88, 0x0F, 0x03, 0x05, 0xAA, 0x55, 0xFF]),
+        Ok(2)
     );
     assert_eq!(rt;
-        xor(&[0x75, 0x88, 0x0F, 0x02, 0x05, 0xAA, 0x55, 0xFF]),
-        (15, 3)
+        told::<Xor>(&[0x75, 0x88, 0x0F, 0x02, 0x05, 0xAA, 0x55, 0xFF]),
+        Err((15, 3))
     );
-    assert_eq!(rt; xor(&[0x75, 0x08, 0x02]), (15, 2));
-    assert_eq!(rt; crc16(&[0x75, 0x08, 0x03]), (15, 2));
-    assert_eq!(rt; crc16(&[0x75, 0x08, 0x04]), (10, 3));
+    assert_eq!(rt; told::<Xor>(&[0x75, 0x08, 0x02]), Err((15, 2)));
+    assert_eq!(rt; told::<Crc16>(&[0x75, 0x08, 0x03]), Err((15, 2)));
+    assert_eq!(rt; told::<Crc16>(&[0x75, 0x08, 0x04]), Err((10, 3)));
 }
 
 #[test]

@@ -1,7 +1,7 @@
 -- Bytes whose header is measured: which are whole, and how others can be completed.
 -- Assumes nothing.
 use Rattle.std.proofs.Common.{◌≡◌, ℕ, zero, suc, ◌+◌, ◌-◌, ◌<◌, ◌≤◌, min, List, [], ◌++◌, length, take, drop, replicate, sym, refl, ap, ◌∙◌, subst, ⊎_elim, arith, length-append, length-drop, length-take}
-use Rattle.std.proofs.lemmas.List.{append-nil, append_assoc, take_all, take-take, take-append-drop, drop-append-le, length-take-le, length-replicate, nil_from_length}
+use Rattle.std.proofs.lemmas.List.{append-nil, append_assoc, take_all, take_min, take-take, take-append-drop, drop-append-le, length-take-le, length-replicate, nil_from_length}
 use Rattle.std.proofs.lemmas.Bool.{cases_lt}
 use Rattle.basics.specs.Bytes.{Bytes}
 use Rattle.basics.specs.Little.{little}
@@ -9,9 +9,8 @@ use Rattle.basics.proofs.Bytewise.{bytes_take, bytes_drop, bytes_append}
 use Rattle.basics.proofs.Littles.{length_little, bytes_little, take_little}
 use Rattle.packet.specs.Raw.{header_length, size_place, size, end, check_place, message, check_bytes}
 use Rattle.packet.specs.Packet.{Packet}
-use Rattle.packet.specs.Measured.{Measured}
+use Rattle.packet.specs.Measured.{Measured, Agrees}
 use Rattle.packet.proofs.Laid.{length_is, size_is, message_is, check_is}
-use Rattle.packet.proofs.Judging.{message_part}
 use Rattle.receiver.specs.Wire.{Whole}
 use Rattle.receiver.proofs.Decode.{packet_from}
 use Rattle.receiver.proofs.Raws.{Alike, alike_more, alike_take, span_alike, Agree, agree, measured_too}
@@ -20,24 +19,12 @@ pub bytes_zeros : (n : ℕ) → Bytes (replicate n 0)
 bytes_zeros zero = tt
 bytes_zeros (suc n) = (omega arith, bytes_zeros n)
 
--- the bytes of the check that are there begin the check of the message
-abbrev pub Agreeing : ℕ → (List ℕ → ℕ) → List ℕ → Type 0
-Agreeing w check h = check_bytes w h ≡ little (length (check_bytes w h)) (check (message w h))
-
 -- bytes can be added to make it whole
 abbrev pub Extends : ℕ → (List ℕ → ℕ) → List ℕ → Type 0
 Extends w check h = (more : List ℕ) × Bytes more × Whole (Packet w check) (h ++ more)
 
-take_length : (w : ℕ) (xs : List ℕ) → take (length (take w xs)) xs ≡ take w xs
-take_length w xs =
-    let n : length (take w xs) ≡ min w (length xs) = length-take w xs in
-    ⊎_elim
-    (λ l. let e : length (take w xs) ≡ w = omega arith in ap (λ (x : ℕ). take x xs) e)
-    (λ l. take_all _ xs (omega arith) ∙ sym (take_all w xs l))
-    (cases_lt w (length xs))
-
 module _ (w : ℕ) (check : List ℕ → ℕ) where
-  pub agreeing_none : (h : List ℕ) → length h ≤ check_place w h → Agreeing w check h
+  pub agreeing_none : (h : List ℕ) → length h ≤ check_place w h → Agrees w check h
   agreeing_none h l =
       let e : check_bytes w h ≡ [] = nil_from_length _ (simp (length-take, length-drop) (omega arith)) in
       subst (λ (x : List ℕ). x ≡ little (length x) (check (message w h))) (sym e) refl
@@ -57,7 +44,7 @@ module _ (w : ℕ) (check : List ℕ → ℕ) where
       pub ends_there : length p ≡ end h
       ends_there = length_is k.2 ∙ agrees.ends
 
-      pub agreeing_of : w + 2 ≤ size h → Agreeing w check h
+      pub agreeing_of : w + 2 ≤ size h → Agrees w check h
       agreeing_of z = ⊎_elim
           (λ (j : check_place w h < length h).
           let a = agrees in
@@ -70,7 +57,7 @@ module _ (w : ℕ) (check : List ℕ → ℕ) where
           let same-message : message w p ≡ message w h =
           ap (λ (i : ℕ). take (i - w) (drop (header_length p) p)) a.sizes ∙ ap (λ (i : ℕ). take (size h - w) (drop i p)) a.headers
           ∙ span_alike p h (header_length h) (size h - w) s (omega arith) (omega arith) in
-          let here : take n (drop c p) ≡ check_bytes w h = span_alike p h c n s (omega arith) (omega arith) ∙ take_length w (drop c h) in
+          let here : take n (drop c p) ≡ check_bytes w h = span_alike p h c n s (omega arith) (omega arith) ∙ rw length-take (take_min w (drop c h)) in
           let all : take w (drop c p) ≡ little w v =
           ap (λ (i : ℕ). take w (drop i p)) (sym same_place) ∙ check_is k.2
           ∙ ap (λ (x : List ℕ). little w (check x)) (sym (message_is k.2) ∙ same-message) in
@@ -80,7 +67,7 @@ module _ (w : ℕ) (check : List ℕ → ℕ) where
 
   module _ (h : List ℕ) (b : Bytes h) (header stop : ℕ) (m : Measured w h header stop) where
     -- the packet in a list whose check is all there and agrees
-    pub whole_from : end h ≤ length h → Agreeing w check h → Packet w check (take (end h) h)
+    pub whole_from : end h ≤ length h → Agrees w check h → Packet w check (take (end h) h)
     whole_from l a =
         let p : List ℕ = take (end h) h in
         let z = m.size_least in
@@ -98,7 +85,7 @@ module _ (w : ℕ) (check : List ℕ → ℕ) where
         (same_check ∙ a ∙ ap (λ (i : ℕ). little i (check (message w h))) long ∙ ap (λ (x : List ℕ). little w (check x)) (sym same-message))
 
     -- the rest of the check
-    pub complete : check_place w h ≤ length h → length h ≤ end h → Agreeing w check h → Extends w check h
+    pub complete : check_place w h ≤ length h → length h ≤ end h → Agrees w check h → Extends w check h
     complete l j a =
         let v : ℕ = check (message w h) in
         let c : ℕ = check_place w h in
@@ -135,7 +122,7 @@ module _ (w : ℕ) (check : List ℕ → ℕ) where
         )
 
   -- any bytes up to the check, and then the check
-  pub reach : (h : List ℕ) (b : Bytes h) (header stop : ℕ) → Measured w h header stop → length h ≤ end h → Agreeing w check h → Extends w check h
+  pub reach : (h : List ℕ) (b : Bytes h) (header stop : ℕ) → Measured w h header stop → length h ≤ end h → Agrees w check h → Extends w check h
   reach h b header stop m j a = ⊎_elim
       (λ (l : length h < check_place w h).
       let n : ℕ = check_place w h - length h in
@@ -149,27 +136,3 @@ module _ (w : ℕ) (check : List ℕ → ℕ) where
       (agreeing_none (h ++ more) (omega (arith, g.ends)))))
       (λ l. complete h b header stop m l j a)
       (cases_lt (length h) (check_place w h))
-
--- The check's bytes as the code cuts them out and compares them; the code has the width of the check as v.
-module _ {w : ℕ} {h : List ℕ} {header stop : ℕ} (check : List ℕ → ℕ) (m : Measured w h header stop) (v last number : ℕ) (f : v ≡ w)
-    (l : stop - v ≤ length h) (s : last ≡ min (length h) stop) (n : number ≡ check (take (stop - v - header) (drop header h))) where
-  part_is : take (last - (stop - v)) (drop (stop - v) h) ≡ check_bytes w h
-  part_is =
-      let e = m.end_is in
-      let z = m.size_least in
-      let xs : List ℕ = drop (stop - v) h in
-      let k : length xs ≡ length h - (stop - v) = length-drop (stop - v) h in
-      ⊎_elim
-      (λ lt. take_all _ xs (omega arith) ∙ sym (take_all w xs (omega arith)))
-      (λ le. let i : last - (stop - v) ≡ w = omega arith in ap (λ (x : ℕ). take x xs) i)
-      (cases_lt (length h) stop)
-      ∙ ap (λ (x : ℕ). take w (drop x h)) (let i : stop - v ≡ check_place w h = omega arith in i)
-
-  spelled : (xs : List ℕ) → xs ≡ check_bytes w h → little (length xs) number ≡ little (length (check_bytes w h)) (check (message w h))
-  spelled xs e = ap (λ (x : List ℕ). little (length x) number) e ∙ ap (little (length (check_bytes w h))) (n ∙ ap check (message_part m v f))
-
-  pub agreeing_from : take (last - (stop - v)) (drop (stop - v) h) ≡ little (length (take (last - (stop - v)) (drop (stop - v) h))) number → Agreeing w check h
-  agreeing_from x = sym part_is ∙ x ∙ spelled _ part_is
-
-  pub agreeing_to : Agreeing w check h → take (last - (stop - v)) (drop (stop - v) h) ≡ little (length (take (last - (stop - v)) (drop (stop - v) h))) number
-  agreeing_to x = part_is ∙ x ∙ sym (spelled _ part_is)

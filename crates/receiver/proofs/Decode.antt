@@ -1,23 +1,19 @@
 -- Bytes with which nothing is wrong are a packet.
 -- Assumes nothing.
-use Rattle.std.proofs.Common.{◌≡◌, ℕ, zero, suc, ◌+◌, ◌<◌, ◌≤◌, Bool, true, false, eqb, List, [], ◌∷◌, length, drop, Some, None, Option, refl, ap, arith}
+use Rattle.std.proofs.Common.{◌≡◌, ℕ, ◌+◌, ◌<◌, ◌≤◌, Bool, true, false, eqb, List, length, drop, Some, None, Option, refl, ap, arith}
 use Rattle.std.proofs.lemmas.List.{drop_more}
 use Rattle.basics.specs.Bytes.{Bytes}
 use Rattle.basics.specs.Little.{little}
 use Rattle.packet.specs.declared.header.Header.{Header}
 use Rattle.packet.specs.Raw.{byte, flag, version, cipher, end, message, check_bytes}
-use Rattle.packet.specs.Header.{bit}
+use Rattle.basics.specs.Bits.{bit}
 use Rattle.packet.specs.Packet.{Packet}
 use Rattle.packet.specs.Fields.{FieldAt}
 use Rattle.packet.specs.Measured.{Measured}
 use Rattle.packet.proofs.Bits.{bit_eqb}
 use Rattle.packet.proofs.Decoding.{Decoded, decoded_lawful, decoded_written}
+use Rattle.basics.proofs.Bytewise.{byte_below}
 use Rattle.packet.proofs.Judging.{reading}
-
-pub byte_below : (xs : List ℕ) → Bytes xs → (i : ℕ) → byte xs i < 256
-byte_below [] b i = omega arith
-byte_below (x ∷ xs) b zero = b.0
-byte_below (x ∷ xs) b (suc i) = byte_below xs b.1 i
 
 -- a field that stands where its flag is set
 abbrev optional : Bool → ℕ → Option ℕ
@@ -116,4 +112,4 @@ module _ (w : ℕ) (check : List ℕ → ℕ) (p : List ℕ) (b : Bytes p) (head
   pub packet_from : check_bytes w p ≡ little w (check (message w p)) → Packet w check p
   packet_from a =
       let z = byte_below p b (2 + flag (byte p 1) 7) in
-      (head, message w p, reading check m head (decoded_lawful p head decoded) b (omega arith) l a (decoded_written p head decoded))
+      (head, message w p, reading check m head (decoded_lawful p head decoded) b l a (decoded_written p head decoded))

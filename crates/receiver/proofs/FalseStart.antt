@@ -1,6 +1,6 @@
 -- A packet behind a false start.
 -- Assumes nothing.
-use Rattle.std.proofs.Common.{ℕ, false, ltb, List, [], ◌∷◌, None, sym, refl, ap, subst, append-nil, arith, ltb→lt}
+use Rattle.std.proofs.Common.{◌≡◌, ℕ, false, ltb, List, [], ◌∷◌, None, sym, refl, subst, append-nil, arith, ltb→lt}
 use Rattle.basics.specs.Bytes.{Bytes}
 use Rattle.basics.proofs.Bytewise.{bytes_from_get_or}
 use Rattle.basics.proofs.Tables.{at}
@@ -41,15 +41,10 @@ is_packet = (
   },
 )
 
-first_of : List ℕ → ℕ
-first_of [] = 0
-first_of (x ∷ xs) = x
-
 -- a byte that opens no header
 begins_none : (b : ℕ) (h : List ℕ) → ¬ Opens b → ¬ Whole (Packet 2 crc16_of) (b ∷ h)
-unfolding first_of
 begins_none b h n ([], rest, k, e) = absurd (omega (arith, (ours 2 crc16_of).filled [] k))
-begins_none b h n (c ∷ p, rest, k, e) = sound k FirstByte (omega arith, λ o. n (subst Opens (ap first_of (sym e)) o))
+begins_none b h n (c ∷ p, rest, k, e) = let same : c ≡ b = cc in sound k FirstByte (omega arith, λ o. n (subst Opens same o))
 
 measured : Measured 2 behind_false_start 4 259
 measured = record {

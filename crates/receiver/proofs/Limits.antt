@@ -1,6 +1,6 @@
 -- What leaves the line, how much is held, and how much one call takes.
 -- Assumes nothing.
-use Rattle.std.proofs.Common.{◌≡◌, ℕ, ◌+◌, ◌≤◌, List, [], ◌∷◌, ◌++◌, length, refl, ap, arith, length-append}
+use Rattle.std.proofs.Common.{◌≡◌, ℕ, ◌+◌, ◌≤◌, List, [], ◌∷◌, ◌++◌, length, min, refl, ap, arith, length-append}
 use Rattle.receiver.specs.Wire.{Event}
 use Rattle.receiver.specs.Rules.{Said, State, state, held, Rules, rule_1, rule_2_noise, rule_2_packet, rule_3_noise, rule_3_opens, rule_4_closed, rule_4_open, rule_5_takes, rule_5_noise, rule_5_waits}
 use Rattle.receiver.specs.Runs.{Run, made, gap, next, refused}
@@ -20,40 +20,53 @@ took_left (rule_5_noise l o m) = refl
 took_left (rule_5_waits m) = refl
 
 module _ (Packet : List ℕ → Type 0) (code : PrefixCode Packet) where
-  abbrev Few : ℕ → State → List ℕ → State → Type 0
-  Few n r taken r' = length (held r) ≤ 263 → n ≤ 1024 → (length (held r') ≤ 263) × (length taken + length (held r) + n ≤ 1287)
-
   rest_few : (r : State) (p rest : List ℕ) → held r ≡ p ++ rest → length rest ≤ length (held r)
   rest_few r p rest e = omega (arith, ap length e, length-append p rest)
 
-  few : {n : ℕ} {r : State} {line taken : List ℕ} {a : Said} {r' : State} {line' : List ℕ} → Rules Packet n r line taken a r' line' → Few n r taken r'
-  few (rule_1 e) h m = omega arith
-  few (rule_2_noise l o w) h m = omega arith
-  few (rule_2_packet {s = state o b} p rest q e) h m = (omega (arith, rest_few (state o b) p rest e), omega arith)
-  few (rule_3_noise l o) h m = omega arith
-  few (rule_3_opens d) h m = few d h m
-  few (rule_4_closed l w d) h m = let s = few d (omega arith) (omega arith) in (s.0, omega (arith, s.1))
-  few (rule_4_open l w p d) h m = let s = few d (omega arith) (omega arith) in (s.0, omega (arith, s.1))
-  few (rule_5_takes {b = b} {h = x} l p d) h m =
+  held_few : {n : ℕ} {r : State} {line taken : List ℕ} {a : Said} {r' : State} {line' : List ℕ} → Rules Packet n r line taken a r' line'
+      → length (held r) ≤ 263 → length (held r') ≤ 263
+  held_few (rule_1 e) h = h
+  held_few (rule_2_noise l o w) h = h
+  held_few (rule_2_packet {s = state o b} p rest q e) h = omega (arith, rest_few (state o b) p rest e)
+  held_few (rule_3_noise l o) h = h
+  held_few (rule_3_opens d) h = held_few d h
+  held_few (rule_4_closed l w d) h = held_few d (omega arith)
+  held_few (rule_4_open l w p d) h = held_few d (omega arith)
+  held_few (rule_5_takes {b = b} {h = x} l p d) h =
       let y = length-append x (b ∷ []) in
       let z = possible_short 263 code.short x p in
-      let s = few d (omega (arith, y, z)) m in
-      (s.0, omega (arith, s.1, y))
-  few (rule_5_noise l o p) h m = omega arith
-  few (rule_5_waits p) h m = omega arith
+      held_few d (omega (arith, y, z))
+  held_few (rule_5_noise l o p) h = h
+  held_few (rule_5_waits p) h = h
+
+  -- Each byte taken fills the room for 263, and each dropped is one of 1,024.
+  taken_few : {n : ℕ} {r : State} {line taken : List ℕ} {a : Said} {r' : State} {line' : List ℕ} → Rules Packet n r line taken a r' line'
+      → n ≤ 1024 → length taken + (min 263 (length (held r)) + n) ≤ 1287
+  taken_few (rule_1 e) m = omega arith
+  taken_few (rule_2_noise l o w) m = omega arith
+  taken_few (rule_2_packet {s = state o b} p rest q e) m = omega arith
+  taken_few (rule_3_noise l o) m = omega arith
+  taken_few (rule_3_opens d) m = taken_few d m
+  taken_few (rule_4_closed l w d) m = let s = taken_few d (omega arith) in omega (arith, s)
+  taken_few (rule_4_open l w p d) m = let s = taken_few d (omega arith) in omega (arith, s)
+  taken_few (rule_5_takes {b = b} {h = x} l p d) m =
+      let y = length-append x (b ∷ []) in
+      let z = possible_short 263 code.short x p in
+      let s = taken_few d m in
+      omega (arith, s, y, z)
+  taken_few (rule_5_noise l o p) m = omega arith
+  taken_few (rule_5_waits p) m = omega arith
 
   -- of one call
-  pub call_few : {s s' : State} {line taken line' : List ℕ} {a : Said} → Rules Packet 0 s line taken a s' line' → length (held s) ≤ 263
-      → (length (held s') ≤ 263) × (length taken ≤ 1287)
-  call_few c h = let s = few c h (omega arith) in (s.0, omega (arith, s.1))
+  pub call_few : {s s' : State} {line taken line' : List ℕ} {a : Said} → Rules Packet 0 s line taken a s' line' → length taken ≤ 1287
+  call_few c = omega (arith, taken_few c (omega arith))
 
   -- so the line gets shorter by no more
-  pub few_gone : {s s' : State} {line taken line' : List ℕ} {a : Said} → Rules Packet 0 s line taken a s' line' → length (held s) ≤ 263
-      → length line ≤ 1287 + length line'
-  few_gone {taken = taken} {line' = line'} c h = omega (arith, ap length (took_left c), length-append taken line', (call_few c h).1)
+  pub few_gone : {s s' : State} {line taken line' : List ℕ} {a : Said} → Rules Packet 0 s line taken a s' line' → length line ≤ 1287 + length line'
+  few_gone {taken = taken} {line' = line'} c = omega (arith, ap length (took_left c), length-append taken line', call_few c)
 
   pub few_held : {s : State} {log : List Event} {said : List Said} → Run Packet s log said → length (held s) ≤ 263
   few_held made = omega arith
   few_held (gap u) = few_held u
-  few_held (next u c) = (call_few c.1.by_rules (few_held u)).0
+  few_held (next u c) = held_few c.1.by_rules (few_held u)
   few_held (refused u c) = omega (arith, few_held u, ap (λ s. length (held s)) c.2)

@@ -1,23 +1,22 @@
 -- One rule at a time, from what the code knows.
 -- Assumes nothing.
-use Rattle.std.proofs.Common.{◌≡◌, ℕ, ◌<◌, Bool, true, false, List, [], ◌∷◌, ◌++◌, length, take, drop, Some, None, sym, refl, ap, ◌∙◌, subst, append_assoc, add-one, arith}
-use Rattle.std.proofs.lemmas.List.{take_at, drop_at, length_push}
+use Rattle.std.proofs.Common.{◌≡◌, ℕ, ◌+◌, ◌<◌, ◌⊎◌, inl, inr, Bool, true, false, List, [], ◌∷◌, ◌++◌, length, take, drop, Some, None, sym, refl, ap, ◌∙◌, subst, append_assoc, add-one, arith}
+use Rattle.std.proofs.lemmas.List.{take_at, drop_at, length_push, nil_from_length}
+use Rattle.std.specs.declared.ops.ControlFlow.{ControlFlow}
+use Rattle.std.specs.declared.ops.ControlFlow.TheVariants.{Break, Continue}
 use Rattle.lines.specs.Taking.{Taken}
 use Rattle.receiver.specs.declared.answer.Answer.{Answer}
 use Rattle.receiver.specs.declared.answer.Answer.TheVariants.{Packet as Found, Noise, Waiting}
-use Rattle.receiver.specs.declared.step.Step.TheVariants.{Dropped, Onward}
-use Rattle.receiver.specs.Wire.{Whole, Possible}
-use Rattle.receiver.specs.Rules.{State, state, held, Open, noise, packet, waiting, rule_1, rule_2_noise, rule_2_packet, rule_3_noise, rule_3_opens, rule_4_closed, rule_4_open, rule_5_takes, rule_5_noise, rule_5_waits}
-use Rattle.receiver.specs.Calls.{Answered, written}
 use Rattle.receiver.specs.declared.judge.Verdict.{Verdict}
+use Rattle.receiver.specs.declared.judge.Verdict.TheVariants as verdict
+use Rattle.receiver.specs.Wire.{Whole, Possible}
+use Rattle.receiver.specs.Rules.{State, state, Open, noise, packet, waiting, rule_1, rule_2_noise, rule_2_packet, rule_3_noise, rule_3_opens, rule_4_closed, rule_4_open, rule_5_takes, rule_5_noise, rule_5_waits}
+use Rattle.receiver.specs.Calls.{Answered, written}
 use Rattle.receiver.specs.Judging.{Judged}
 use Rattle.receiver.specs.Steps.{Leads, Stepped}
 
 module _ {Packet : List ℕ → Type 0} where
   -- Turns of the rules, one after the other.
-  pub start : (n : ℕ) (s : State) (line : List ℕ) → Leads Packet n s line n s line
-  start n s line = record { between = []; onward = λ taken a s'' line'' d. d }
-
   pub onto : {n n' n'' : ℕ} {s s' s'' : State} {line line' line'' : List ℕ}
       → Leads Packet n s line n' s' line' → Leads Packet n' s' line' n'' s'' line'' → Leads Packet n s line n'' s'' line''
   onto f g = record {
@@ -37,63 +36,83 @@ module _ {Packet : List ℕ → Type 0} where
     writes = x.writes ∙ ap (written x.said) e;
   }
 
+-- a verdict on a list is one on an equal list
+judged_at : (Packet : List ℕ → Type 0) (d : Verdict) {x h : List ℕ} → x ≡ h → Judged Packet x d → Judged Packet h d
+judged_at Packet d e j = subst (λ (y : List ℕ). Judged Packet y d) e j
+
 module _ (Packet : List ℕ → Type 0) (n : ℕ) where
   pub full_at : (s : State) (line buffer : List ℕ) → n ≡ 1024 → Answered Packet n s line buffer (Noise n) s line buffer
   full_at s line buffer e = record { taken = []; said = noise n; by_rules = rule_1 e; answers = refl; writes = refl }
 
-  pub ahead_at : (s : State) (line buffer : List ℕ) → n < 1024 → 0 < n → Whole Packet (held s) → Answered Packet n s line buffer (Noise n) s line buffer
-  ahead_at s line buffer l z w = record { taken = []; said = noise n; by_rules = rule_2_noise l z w; answers = refl; writes = refl }
+  -- what an early answer of noise is
+  pub noise_at : {s s' : State} {line line' buffer : List ℕ} {r : ControlFlow Answer ℕ} {a : Answer}
+      → (0 < n → Answered Packet n s line buffer (Noise n) s' line' buffer) → r ≡ Break a → (a ≡ Noise n) × (0 < n)
+      → Stepped Packet n s line buffer r s' line' buffer
+  noise_at f e z = rw (e, z.0) (f z.1)
 
-  pub packet_at : (open? : Bool) (h h' line buffer buffer' p rest : List ℕ) (k : ℕ) → n ≡ 0 → Packet p → h ≡ p ++ rest → length p ≡ k
-      → h' ≡ drop k h → buffer' ≡ take k h ++ drop k buffer
-      → Answered Packet n (state open? h) line buffer (Found k) (state open? h') line buffer'
-  packet_at open? h h' line buffer buffer' p rest k z q e l f g =
-      rw (z, f ∙ ap (drop k) e ∙ drop_at p rest k l)
+-- the first byte is dropped
+module _ (Packet : List ℕ → Type 0) (n : ℕ) (few : n < 1024) where
+  shed : (h h' line buffer : List ℕ) → 0 < length h → ¬ Whole Packet h → h' ≡ drop 1 h
+      → Stepped Packet n (state false h) line buffer (Continue (n + 1)) (state false h') line buffer
+  shed [] h' line buffer z w d = absurd (omega arith)
+  shed (b ∷ h) h' line buffer z w d =
+      rw (d, add-one n) (omega arith, record { between = []; onward = λ taken a s''' line''' y. rule_4_closed few w y }, refl, omega arith)
+
+  skip : (open? : Bool) (h h' line buffer : List ℕ) → 0 < length h → ¬ Whole Packet h → ¬ Possible Packet h → h' ≡ drop 1 h
+      → Stepped Packet n (state open? h) line buffer (Continue (n + 1)) (state open? h') line buffer
+  skip false h h' line buffer z w m d = shed h h' line buffer z w d
+  skip true [] h' line buffer z w m d = absurd (omega arith)
+  skip true (b ∷ h) h' line buffer z w m d =
+      rw (d, add-one n) (omega arith, record { between = []; onward = λ taken a s''' line''' y. rule_4_open few w m y }, refl, omega arith)
+
+-- The verdict is on x, which are the bytes held.
+module _ (Packet : List ℕ → Type 0) (n : ℕ) {open? : Bool} {h x : List ℕ} {s : State} (v : state open? h ≡ s) (e : x ≡ h) (few : n < 1024) where
+  pub ahead_at : {k : ℕ} {line buffer : List ℕ} → Judged Packet x (verdict.Whole k) → 0 < n → Answered Packet n s line buffer (Noise n) s line buffer
+  ahead_at {k} j z =
+      let w = judged_at Packet (verdict.Whole k) e j in
+      rw (← v) (record { taken = []; said = noise n; by_rules = rule_2_noise few z (w.0, w.1, w.2, w.3); answers = refl; writes = refl })
+
+  pub packet_at : {k : ℕ} {h' line buffer buffer' : List ℕ} → Judged Packet x (verdict.Whole k) → n ≡ 0 → h' ≡ drop k h → buffer' ≡ take k h ++ drop k buffer
+      → Answered Packet n s line buffer (Found k) (state open? h') line buffer'
+  packet_at {k} {buffer = buffer} j z f g =
+      let w = judged_at Packet (verdict.Whole k) e j in
+      let p = w.0 in
+      rw (← v, z, f ∙ ap (drop k) w.3 ∙ drop_at p w.1 k w.4)
       (record {
         taken = [];
         said = packet p;
-        by_rules = rule_2_packet p rest q e;
-        answers = ap (λ (x : ℕ). Found x) (sym l);
-        writes = g ∙ ap (λ (x : List ℕ). x ++ drop k buffer) (ap (take k) e ∙ take_at p rest k l) ∙ ap (λ (x : ℕ). p ++ drop x buffer) (sym l);
+        by_rules = rule_2_packet p w.1 w.2 w.3;
+        answers = ap (λ (y : ℕ). Found y) (sym w.4);
+        writes = g ∙ ap (λ (y : List ℕ). y ++ drop k buffer) (ap (take k) w.3 ∙ take_at p w.1 k w.4) ∙ ap (λ (y : ℕ). p ++ drop y buffer) (sym w.4);
       })
 
-  pub shed_at : (open? : Bool) (h h' line buffer : List ℕ) → open? ≡ false → n < 1024 → 0 < length h → ¬ Whole Packet h → h' ≡ drop 1 h
-      → Stepped Packet n (state open? h) line buffer Dropped (state open? h') line buffer
-  shed_at open? [] h' line buffer c l z w d = absurd (omega arith)
-  shed_at open? (b ∷ h) h' line buffer c l z w d =
-      rw (c, d, add-one n) (l, record { between = []; onward = λ taken a s''' line''' x. rule_4_closed l w x }, refl, omega arith)
+  pub emptied_at : {line buffer : List ℕ} → open? ≡ false → length h ≡ 0 → 0 < n → Answered Packet n s line buffer (Noise n) (Open h) line buffer
+  emptied_at c m z = rw (← v, c, nil_from_length h m) (record { taken = []; said = noise n; by_rules = rule_3_noise few z; answers = refl; writes = refl })
 
-  -- open or closed
-  pub drops_at : (open? : Bool) (h h' line buffer : List ℕ) → n < 1024 → 0 < length h → ¬ Whole Packet h → ¬ Possible Packet h → h' ≡ drop 1 h
-      → Stepped Packet n (state open? h) line buffer Dropped (state open? h') line buffer
-  drops_at false h h' line buffer l z w m d = shed_at false h h' line buffer refl l z w d
-  drops_at true [] h' line buffer l z w m d = absurd (omega arith)
-  drops_at true (b ∷ h) h' line buffer l z w m d =
-      rw (d, add-one n) (l, record { between = []; onward = λ taken a s''' line''' x. rule_4_open l w m x }, refl, omega arith)
+  pub opens_at : {line buffer : List ℕ} → open? ≡ false → length h ≡ 0 → n ≡ 0 → Stepped Packet n s line buffer (Continue n) (Open h) line buffer
+  opens_at c m z = rw (← v, c, nil_from_length h m, z) (omega arith, record { between = []; onward = λ taken a s''' line''' d. rule_3_opens d }, refl, omega arith)
 
-  pub opens_at : (open? : Bool) (h line buffer : List ℕ) → open? ≡ false → n ≡ 0 → h ≡ []
-      → Stepped Packet n (state open? h) line buffer Onward (Open h) line buffer
-  opens_at open? h line buffer c z e = rw (c, e, z) (record { between = []; onward = λ taken a s''' line''' x. rule_3_opens x }, refl, omega arith)
+  pub dry_at : {line line' buffer : List ℕ} → Judged Packet x verdict.Possible → open? ≡ true → Taken None line line' → 0 < n
+      → Answered Packet n s line buffer (Noise n) s line' buffer
+  dry_at j c t z =
+      let m = judged_at Packet verdict.Possible e j in
+      rw (← v, c, t.0, t.1) (record { taken = []; said = noise n; by_rules = rule_5_noise few z m.0; answers = refl; writes = refl })
 
-  pub emptied_at : (open? : Bool) (h line buffer : List ℕ) → open? ≡ false → n < 1024 → 0 < n → h ≡ []
-      → Answered Packet n (state open? h) line buffer (Noise n) (Open h) line buffer
-  emptied_at open? h line buffer c l z e = rw (c, e) (record { taken = []; said = noise n; by_rules = rule_3_noise l z; answers = refl; writes = refl })
+  pub waits_at : {line line' buffer : List ℕ} → Judged Packet x verdict.Possible → open? ≡ true → Taken None line line' → n ≡ 0
+      → Answered Packet n s line buffer Waiting s line' buffer
+  waits_at j c t z =
+      let m = judged_at Packet verdict.Possible e j in
+      rw (← v, c, t.0, t.1, z) (record { taken = []; said = waiting; by_rules = rule_5_waits m.0; answers = refl; writes = refl })
 
-  pub takes_at : (open? : Bool) (h h' line line' buffer : List ℕ) (b : ℕ) → open? ≡ true → n < 1024 → Possible Packet h → length h < 263
-      → Taken (Some b) line line' → h' ≡ h ++ b ∷ []
-      → Stepped Packet n (state open? h) line buffer Onward (state open? h') line' buffer
-  takes_at open? h h' line line' buffer b c l m r t d =
-      let s = length_push h b in
-      rw (c, d, t) (record { between = b ∷ []; onward = λ taken a s''' line''' x. rule_5_takes l m x }, refl, omega arith)
+  pub takes_at : {b : ℕ} {h' line line' buffer : List ℕ} → Judged Packet x verdict.Possible → open? ≡ true → Taken (Some b) line line' → h' ≡ h ++ b ∷ []
+      → Stepped Packet n s line buffer (Continue n) (state open? h') line' buffer
+  takes_at {b} j c t d =
+      let m = judged_at Packet verdict.Possible e j in
+      let l = length_push h b in
+      rw (← v, c, d, t) (omega arith, record { between = b ∷ []; onward = λ taken a s''' line''' y. rule_5_takes few m.0 y }, refl, omega arith)
 
-  pub dry_at : (open? : Bool) (h line line' buffer : List ℕ) → open? ≡ true → n < 1024 → 0 < n → Possible Packet h → Taken None line line'
-      → Answered Packet n (state open? h) line buffer (Noise n) (state open? h) line' buffer
-  dry_at open? h line line' buffer c l z m t = rw (c, t.0, t.1) (record { taken = []; said = noise n; by_rules = rule_5_noise l z m; answers = refl; writes = refl })
-
-  pub waits_at : (open? : Bool) (h line line' buffer : List ℕ) → open? ≡ true → n ≡ 0 → Possible Packet h → Taken None line line'
-      → Answered Packet n (state open? h) line buffer Waiting (state open? h) line' buffer
-  waits_at open? h line line' buffer c z m t = rw (c, t.0, t.1, z) (record { taken = []; said = waiting; by_rules = rule_5_waits m; answers = refl; writes = refl })
-
--- a verdict on a list is one on an equal list
-pub judged_at : (Packet : List ℕ → Type 0) (v : Verdict) (h h' : List ℕ) → h' ≡ h → Judged Packet h' v → Judged Packet h v
-judged_at Packet v h h' e j = subst (λ (x : List ℕ). Judged Packet x v) e j
+  pub drops_at : {h' line buffer : List ℕ} (d : Verdict) → Judged Packet x d
+      → (d ≡ verdict.Impossible) ⊎ ((d ≡ verdict.Possible) × (open? ≡ false) × (0 < length h)) → h' ≡ drop 1 h
+      → Stepped Packet n s line buffer (Continue (n + 1)) (state open? h') line buffer
+  drops_at d j (inl i) f = let m = judged_at Packet verdict.Impossible e (rw i at j) in rw (← v) (skip Packet n few open? h _ _ _ m.0 m.1 m.2 f)
+  drops_at d j (inr p) f = let m = judged_at Packet verdict.Possible e (rw p.0 at j) in rw (← v, p.1) (shed Packet n few h _ _ _ p.2 m.0.0 f)

@@ -1,7 +1,8 @@
 -- What two lists say of themselves as packets, where they have the same bytes.
 -- Assumes nothing.
 use Rattle.std.proofs.Common.{◌≡◌, ℕ, ◌+◌, ◌/◌, ◌%◌, ◌<◌, ◌≤◌, List, ◌++◌, length, get_or, take, drop, sym, refl, ap, ◌∙◌, subst, arith, length-drop, length-take}
-use Rattle.std.proofs.lemmas.List.{get_or_append_left, get_or-take, get_or-drop, ext_get_or}
+use Rattle.std.proofs.lemmas.List.{get_or_append_left, get_or-take, ext_get_or}
+use Rattle.std.proofs.lemmas.Grind.{elements}
 use Rattle.packet.specs.Raw.{byte, flag, header_length, size_place, size, end}
 use Rattle.packet.specs.Faults.{Opens}
 use Rattle.packet.specs.Measured.{Measured}
@@ -24,17 +25,8 @@ span_alike p h a n s lp lh =
     let np : length (take n (drop a p)) ≡ n = simp (length-take, length-drop) (omega arith) in
     let nh : length (take n (drop a h)) ≡ n = simp (length-take, length-drop) (omega arith) in
     ext_get_or 0 (take n (drop a p)) (take n (drop a h)) (np ∙ sym nh) (λ i l.
-    let j : i < n = omega arith in
     let e = s (a + i) (omega arith) (omega arith) in
-    let tp = get_or-take n (drop a p) i 0 j in
-    let th = get_or-take n (drop a h) i 0 j in
-    let dp = get_or-drop a p i 0 in
-    let dh = get_or-drop a h i 0 in
-    cc)
-
--- the size stands within the first four bytes, and before the header's end
-pub size_place_most : (p : List ℕ) → size_place p ≤ 3
-size_place_most p = omega arith
+    grind (arith, elements))
 
 -- both have their size: they say the same
 pub record Agree (p h : List ℕ) : Type 0 where

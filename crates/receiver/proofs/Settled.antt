@@ -1,6 +1,7 @@
 -- Each rule settles what it says, and so does every list of calls.
 -- Assumes nothing.
-use Rattle.std.proofs.Common.{◌≡◌, ℕ, zero, suc, true, false, List, [], ◌∷◌, ◌++◌, replicate, sym, refl, ap, ◌∙◌, subst, append_assoc, append-nil}
+use Rattle.std.proofs.Common.{◌≡◌, ℕ, zero, suc, ◌+◌, true, false, List, [], ◌∷◌, ◌++◌, replicate, sym, refl, ap, ◌∙◌, subst, append_assoc, append-nil, add-one}
+use Rattle.std.proofs.lemmas.List.{replicate_more}
 use Rattle.receiver.specs.Wire.{Event, took, silence, tooks, bytes, stretch, Whole, Possible}
 use Rattle.receiver.specs.Rules.{Said, noise, State, state, Open, Closed, held, holding, Rules, rule_1, rule_2_noise, rule_2_packet, rule_3_noise, rule_3_opens, rule_4_closed, rule_4_open, rule_5_takes, rule_5_noise, rule_5_waits}
 use Rattle.receiver.specs.Runs.{Part, noisy, framed, part, parts, Run, made, gap, next, refused}
@@ -46,15 +47,11 @@ front (state false h) k p rest e =
     ∙ append_assoc (tooks p) (tooks rest) (silence ∷ replicate k silence)
 
 one_more : (n : ℕ) (a : Said) (ps : List Part) → part a ≡ replicate (suc n) noisy ++ ps → part a ≡ replicate n noisy ++ noisy ∷ ps
-one_more n a ps e = e ∙ shift n
-  where
-    shift : (m : ℕ) → replicate (suc m) noisy ++ ps ≡ replicate m noisy ++ noisy ∷ ps
-    shift zero = refl
-    shift (suc m) = ap {B = List Part} (λ l. noisy ∷ l) (shift m)
-
-quiet_push : (k : ℕ) → replicate k silence ++ silence ∷ [] ≡ silence ∷ replicate k silence
-quiet_push zero = refl
-quiet_push (suc k) = ap {B = List Event} (λ l. silence ∷ l) (quiet_push k)
+one_more n a ps e =
+    let f = replicate_more n noisy in
+    let g = append_assoc (replicate n noisy) (noisy ∷ []) ps in
+    let h : n + 1 ≡ suc n = add-one n in
+    cc
 
 module _ (Packet : List ℕ → Type 0) (code : PrefixCode Packet) where
   quiet : (k : ℕ) {es es' : List Event} {ps : List Part} → Decided Packet es ps es' → Decided Packet (replicate k silence ++ es) ps es'
@@ -108,7 +105,7 @@ module _ (Packet : List ℕ → Type 0) (code : PrefixCode Packet) where
   shut : (s : State) (log : List Event) (said : List Said) → Settled s log said → Settled (Closed (held s)) (log ++ silence ∷ []) said
   shut (state true h) log said (k, d) = (0, extend (silence ∷ []) d)
   shut (state false h) log said (k, d) =
-      (suc k, subst (λ l. Decided Packet (log ++ silence ∷ []) (parts said) l) (append_assoc (tooks h) (silence ∷ replicate k silence) (silence ∷ []) ∙ ap (λ (l : List Event). tooks h ++ silence ∷ l) (quiet_push k)) (extend (silence ∷ []) d))
+      (suc k, subst (λ l. Decided Packet (log ++ silence ∷ []) (parts said) l) (append_assoc (tooks h) (silence ∷ replicate k silence) (silence ∷ []) ∙ ap (λ (l : List Event). tooks h ++ silence ∷ l) (rw add-one at (replicate_more k silence))) (extend (silence ∷ []) d))
 
   call : {s s' : State} {line taken line' : List ℕ} {a : Said} (log : List Event) (said : List Said)
       → Rules Packet 0 s line taken a s' line' → Settled s log said → Settled s' (log ++ tooks taken) (said ++ a ∷ [])

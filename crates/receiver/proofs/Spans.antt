@@ -1,45 +1,35 @@
 -- The bytes from one place to another of a list.
 -- Assumes nothing.
-use Rattle.std.proofs.Common.{◌≡◌, ℕ, ◌+◌, ◌-◌, ◌<◌, ◌≤◌, List, [], ◌∷◌, ◌++◌, length, take, drop, set, sym, ap, ◌∙◌, zero-add, arith, length-drop, length-take}
-use lib.Seq.{paste}
-use Rattle.std.proofs.lemmas.List.{drop-take, drop-drop, take-take, take_more_set, drop-set-add}
-use Rattle.std.proofs.lemmas.List.Edits.{take-paste}
-use Rattle.receiver.specs.declared.held.Held.{Held}
-use Rattle.receiver.specs.Holding.{listed}
+use Rattle.std.proofs.Common.{◌≡◌, ℕ, ◌+◌, ◌-◌, ◌<◌, ◌≤◌, List, [], ◌∷◌, ◌++◌, length, take, drop, set, slice_range, min, inl, inr, refl, arith, length-drop}
+use Rattle.std.proofs.lemmas.List.{take-append-le, drop-drop, take-take, length-take-le, take_more_set, drop-set-add}
+use Rattle.std.specs.List.{copy_within}
+use Rattle.std.proofs.lemmas.Bool.{cases_lt}
+use Rattle.std.proofs.BufReadLemmas.{drop-take_min}
 
-pub span_length : (xs : List ℕ) (a n : ℕ) → a + n ≤ length xs → length (take n (drop a xs)) ≡ n
-span_length xs a n h = simp (length-take, length-drop) (omega arith)
-
--- a span without its first k bytes
-pub span_later : (xs : List ℕ) (a n k : ℕ) → k ≤ n → take (n - k) (drop (a + k) xs) ≡ drop k (take n (drop a xs))
-span_later xs a n k h =
-    let e : k + (n - k) ≡ n = omega arith in
-    let d : drop k (take (k + (n - k)) (drop a xs)) ≡ take (n - k) (drop k (drop a xs)) = drop-take k (n - k) (drop a xs) in
+-- without the first k bytes
+pub span_later : (xs : List ℕ) (a b k : ℕ) → slice_range xs (a + k) b ≡ drop k (slice_range xs a b)
+span_later xs a b k =
     let f : drop k (drop a xs) ≡ drop (a + k) xs = drop-drop k a xs in
-    cc
-
--- its first k bytes
-pub span_first : (xs : List ℕ) (a n k : ℕ) → k ≤ n → take k (drop a xs) ≡ take k (take n (drop a xs))
-span_first xs a n k h = sym (take-take k n (drop a xs) h)
+    let g = drop-take_min (drop a xs) (b - a) k (min k (b - a)) refl in
+    elim (cases_lt (b - a) k) [
+      | inl none ↦ (let e : b - (a + k) ≡ 0 = omega arith in let d : b - a - min k (b - a) ≡ 0 = omega arith in rw (e, g, d) refl)
+      | inr some ↦ (let e : b - (a + k) ≡ b - a - k = omega arith in let d : min k (b - a) ≡ k = omega arith in rw (e, g, d, f) refl)
+    ]
 
 -- one byte more
-pub span_push : (xs : List ℕ) (a n b : ℕ) → a + n < length xs → take (n + 1) (drop a (set xs (a + n) b)) ≡ take n (drop a xs) ++ b ∷ []
-span_push xs a n b h =
-    let p : n < length (drop a xs) = simp length-drop (omega arith) in
-    let e = drop-set-add a xs n b in
-    let t = take_more_set (drop a xs) n b p in
+pub span_push : (xs : List ℕ) (a b x : ℕ) → a ≤ b → b < length xs → slice_range (set xs b x) a (b + 1) ≡ slice_range xs a b ++ x ∷ []
+span_push xs a b x l h =
+    let p : b - a < length (drop a xs) = omega (arith, length-drop a xs) in
+    let e : b + 1 - a ≡ b - a + 1 = omega arith in
+    let f : a + (b - a) ≡ b = omega arith in
+    let g = drop-set-add a xs (b - a) x in
+    let t = take_more_set (drop a xs) (b - a) x p in
     cc
 
 -- moved to the front
-pub span_moved : (xs : List ℕ) (a n : ℕ) → a + n ≤ length xs → take n (paste xs 0 (drop a xs) (a + n - a)) ≡ take n (drop a xs)
-span_moved xs a n h =
-    let l : length (drop a xs) ≡ length xs - a = length-drop a xs in
-    let e : a + n - a ≡ n = omega arith in
-    ap (λ (k : ℕ). take n (paste xs 0 (drop a xs) k)) e ∙ ap (λ (k : ℕ). take k (paste xs 0 (drop a xs) n)) (sym (zero-add n))
-    ∙ take-paste xs 0 (drop a xs) n (omega arith) (omega arith)
-
-pub listed_length : (h : Held) → length (listed h) ≡ h.len
-listed_length h = let r = h.room.0 in let f = h.full in span_length h.bytes h.start h.len (omega arith)
-
-pub listed_few : (h : Held) → length (listed h) ≤ 263
-listed_few h = omega (arith, listed_length h, h.room.1)
+pub span_moved : (xs : List ℕ) (a b n : ℕ) → b ≤ n → n ≤ length xs → slice_range (copy_within xs a n 0) 0 (b - a) ≡ slice_range xs a b
+span_moved xs a b n h l =
+    let e : length (drop a xs) ≡ length xs - a = length-drop a xs in
+    let f : length (take (n - a) (drop a xs)) ≡ n - a = length-take-le (n - a) (drop a xs) (omega arith) in
+    let z : b - a - 0 ≡ b - a = omega arith in
+    rw (z, take-append-le (b - a) (take (n - a) (drop a xs)) (drop (0 + (n - a)) xs) (omega arith)) (take-take (b - a) (n - a) (drop a xs) (omega arith))

@@ -2,7 +2,6 @@
 -- Assumes nothing.
 use Rattle.std.proofs.Common.{◌≡◌, ℕ, zero, suc, ◌+◌, ◌-◌, ◌≤◌, List, [], ◌∷◌, ◌++◌, length, sym, refl, ap, ◌∙◌, subst, not-suc-le-zero, arith, length-append}
 use native.Mathlib.Decide.{dec_le}
-use mathlib.Core.List.{nil≢cons, head-eq_of_cons-eq}
 use Rattle.receiver.specs.Wire.{Event, took, bytes, laid}
 use Rattle.receiver.specs.Rules.{Said, State, held}
 use Rattle.receiver.specs.Runs.{Part, noisy, framed, parts, size, Crosses, Told, Run}
@@ -10,7 +9,7 @@ use Rattle.receiver.specs.Law.{Law}
 use Rattle.receiver.proofs.PrefixCode.{PrefixCode}
 use Rattle.receiver.proofs.Decided.{Never, Decided, left, skip, stray, frame, told}
 use Rattle.receiver.proofs.Settled.{pending, settled, bytes_pending, bytes_append}
-use Rattle.receiver.proofs.Points.{sizes, split, apart, unlike}
+use Rattle.receiver.proofs.Points.{sizes, split}
 use Rattle.receiver.proofs.Same.{same}
 use Rattle.receiver.proofs.Limits.{took_left, few_held, call_few}
 
@@ -19,14 +18,14 @@ divide : (ps : List Part) (k : ℕ) → k ≤ size ps → ¬ Crosses ps k → (q
 divide ps zero l n = ([], ps, refl, refl)
 divide [] (suc k) l n = absurd (not-suc-le-zero l)
 divide (noisy ∷ ps) (suc k) l n =
-    let r = divide ps k (omega arith) (λ c. n (noisy ∷ c.0, c.1, c.2, ap {B = List Part} (λ x. noisy ∷ x) c.3, omega (arith, c.4), omega (arith, c.5))) in
-    (noisy ∷ r.0, r.1, ap {B = List Part} (λ x. noisy ∷ x) r.2, ap suc r.3)
+    let r = divide ps k (omega arith) (λ c. n (noisy ∷ c.0, c.1, c.2, (cc), omega (arith, c.4), omega (arith, c.5))) in
+    (noisy ∷ r.0, r.1, (cc), ap suc r.3)
 divide (framed p ∷ ps) (suc k) l n =
     elim (dec_le (length p) (suc k)) [
       | no a ↦ absurd (n ([], p, ps, refl, omega arith, omega arith))
       | yes a ↦
-          (let r = divide ps (suc k - length p) (omega arith) (λ c. n (framed p ∷ c.0, c.1, c.2, ap {B = List Part} (λ x. framed p ∷ x) c.3, omega (arith, c.4), omega (arith, c.5))) in
-          (framed p ∷ r.0, r.1, ap {B = List Part} (λ x. framed p ∷ x) r.2, omega (arith, r.3)))
+          (let r = divide ps (suc k - length p) (omega arith) (λ c. n (framed p ∷ c.0, c.1, c.2, (cc), omega (arith, c.4), omega (arith, c.5))) in
+          (framed p ∷ r.0, r.1, (cc), omega (arith, r.3)))
     ]
 
 module _ (Packet : List ℕ → Type 0) (code : PrefixCode Packet) where
@@ -37,10 +36,10 @@ module _ (Packet : List ℕ → Type 0) (code : PrefixCode Packet) where
 
   never : {es es' : List Event} {ps qs : List Part} (b : ℕ) (es₁ : List Event) → Decided Packet es ps es' → es ≡ took b ∷ es₁ → ps ≡ noisy ∷ qs
       → Never Packet (took b ∷ es₁)
-  never b es₁ left e f = absurd (nil≢cons f)
-  never b es₁ (skip d) e f = absurd (apart (sym (head-eq_of_cons-eq e)))
+  never b es₁ left e f = absurd (cc)
+  never b es₁ (skip d) e f = absurd (cc)
   never b es₁ (stray c n d) e f = subst (λ l. Never Packet l) e n
-  never b es₁ (frame p k g d) e f = absurd (unlike (sym (head-eq_of_cons-eq f)))
+  never b es₁ (frame p k g d) e f = absurd (cc)
 
   no_packet_lost : (r : State) (pre post : List Event) (b : ℕ) (said : List Said) (before after : List Part)
       → Run Packet r (pre ++ took b ∷ post) said → parts said ≡ before ++ noisy ∷ after → size before ≡ length (bytes pre)
@@ -91,5 +90,5 @@ stands Packet code = record {
   no_packet_lost = no_packet_lost Packet code;
   resynchronised = resynchronised Packet code;
   few_held = λ s log said u. few_held Packet code u;
-  few_taken = λ s s' log said line buffer line' buffer' a u c. (call_few Packet code c.1.by_rules (few_held Packet code u)).1;
+  few_taken = λ s s' log said line buffer line' buffer' a u c. call_few Packet code c.1.by_rules;
 }

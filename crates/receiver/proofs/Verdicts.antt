@@ -10,7 +10,7 @@ use Rattle.packet.specs.declared.fault.PacketFault.TheVariants.{CutShort, FirstB
 use Rattle.packet.specs.Raw.{byte, flag, version, cipher, header_length, size_place, size, end}
 use Rattle.packet.specs.Packet.{Packet}
 use Rattle.packet.specs.Faults.{Opens, Refused}
-use Rattle.packet.specs.Measured.{LawfulStart, Measured}
+use Rattle.packet.specs.Measured.{Begun, LawfulStart, Measured, Agrees}
 use Rattle.packet.proofs.Bits.{opens_from, opens_to}
 use Rattle.packet.proofs.Laid.{sound}
 use Rattle.receiver.specs.declared.judge.Verdict.TheVariants.{Whole as Found, Possible as Maybe, Impossible}
@@ -18,9 +18,9 @@ use Rattle.receiver.specs.Wire.{Whole}
 use Rattle.receiver.specs.Judging.{Judged}
 use Rattle.receiver.proofs.PrefixCode.{possible_short}
 use Rattle.receiver.proofs.Ours.{ours}
-use Rattle.receiver.proofs.Decode.{byte_below}
+use Rattle.basics.proofs.Bytewise.{byte_below}
 use Rattle.receiver.proofs.Raws.{Alike, alike_fronts}
-use Rattle.receiver.proofs.Completing.{Agreeing, agreeing_none, Extends, extend_by, packet_long, agrees, ends_there, agreeing_of, whole_from, reach}
+use Rattle.receiver.proofs.Completing.{agreeing_none, Extends, extend_by, packet_long, agrees, ends_there, agreeing_of, whole_from, reach}
 
 -- a first byte that is not refused is lawful
 opens_stable : (b : ℕ) → b < 256 → ¬ (¬ Opens b) → Opens b
@@ -29,13 +29,6 @@ opens_stable b l n = by (eqb (bit_and b 0x77) 0x75) refl
     by : (t : Bool) → eqb (bit_and b 0x77) 0x75 ≡ t → Opens b
     by true e = opens_from b l (subst T (sym e) tt)
     by false e = absurd (n (λ o. subst T e (opens_to b o)))
-
--- the header's fields that are there are lawful
-record Begun (h : List ℕ) : Type 0 where
-  first : 0 < length h → Opens (byte h 0)
-  version_least : 1 < length h → 1 ≤ version h
-  cipher_most : 1 < length h → cipher h ≤ 3
-  route_most : 2 < length h → flag (byte h 1) 7 ≡ 1 → byte h 2 ≤ 15
 
 module _ (w : ℕ) (check : List ℕ → ℕ) where
   -- no packet has the bytes of h
@@ -94,7 +87,7 @@ module _ (w : ℕ) (check : List ℕ → ℕ) where
 
   begun : (h : List ℕ) (k : ℕ) → Bytes h → Refused w check h CutShort k → Begun h
   begun h k b r = record {
-    first = λ l. opens_stable (byte h 0) (byte_below h b 0) (λ o. omega (arith, l, (r.first FirstByte (l, o)).0));
+    opens = λ l. opens_stable (byte h 0) (byte_below h b 0) (λ o. omega (arith, l, (r.first FirstByte (l, o)).0));
     version_least = λ l. ⊎_elim (λ z. absurd (omega (arith, l, (r.first Version (l, omega arith)).0))) (λ z. z) (cases_lt (version h) 1);
     cipher_most = λ l. ⊎_elim (λ z. absurd (omega (arith, l, (r.first Cipher (l, z)).0))) (λ z. z) (cases_lt 3 (cipher h));
     route_most = λ l e. ⊎_elim (λ z. absurd (omega (arith, l, (r.first Route (l, e, z)).0))) (λ z. z) (cases_lt 15 (byte h 2));
@@ -116,7 +109,7 @@ module _ (w : ℕ) (check : List ℕ → ℕ) where
   from_start (a ∷ []) t b o l =
       extend_by w check (a ∷ []) (8 ∷ (w + 2) ∷ []) (omega arith, (omega arith, tt))
       (from_size (a ∷ 8 ∷ (w + 2) ∷ []) (b.0, (omega arith, (omega arith, tt)))
-      (record { opens = o.first (omega arith); version_least = omega arith; cipher_most = omega arith; route_most = λ e. absurd (omega arith) })
+      (record { opens = o.opens (omega arith); version_least = omega arith; cipher_most = omega arith; route_most = λ e. absurd (omega arith) })
       (omega arith) (omega arith) refl)
   from_start (a ∷ c ∷ []) t b o l = ⊎_elim
       (λ (s : flag c 7 < 1).
@@ -124,14 +117,14 @@ module _ (w : ℕ) (check : List ℕ → ℕ) where
       let h : List ℕ = a ∷ c ∷ (w + 2) ∷ [] in
       extend_by w check (a ∷ c ∷ []) ((w + 2) ∷ []) (omega arith, tt)
       (from_size h (b.0, (b.1.0, (omega arith, tt)))
-      (record { opens = o.first (omega arith); version_least = o.version_least (omega arith); cipher_most = o.cipher_most (omega arith); route_most = λ e. absurd (omega arith) })
+      (record { opens = o.opens (omega arith); version_least = o.version_least (omega arith); cipher_most = o.cipher_most (omega arith); route_most = λ e. absurd (omega arith) })
       (omega arith) (omega arith) (ap (λ (x : ℕ). byte h (2 + x)) d)))
       (λ (s : 1 ≤ flag c 7).
       let d : flag c 7 ≡ 1 = omega arith in
       let h : List ℕ = a ∷ c ∷ 0 ∷ (w + 2) ∷ [] in
       extend_by w check (a ∷ c ∷ []) (0 ∷ (w + 2) ∷ []) (omega arith, (omega arith, tt))
       (from_size h (b.0, (b.1.0, (omega arith, (omega arith, tt))))
-      (record { opens = o.first (omega arith); version_least = o.version_least (omega arith); cipher_most = o.cipher_most (omega arith); route_most = λ e. omega arith })
+      (record { opens = o.opens (omega arith); version_least = o.version_least (omega arith); cipher_most = o.cipher_most (omega arith); route_most = λ e. omega arith })
       (omega arith) (omega arith) (ap (λ (x : ℕ). byte h (2 + x)) d)))
       (cases_lt (flag c 7) 1)
   from_start (a ∷ c ∷ r ∷ []) t b o l =
@@ -139,7 +132,7 @@ module _ (w : ℕ) (check : List ℕ → ℕ) where
       let h : List ℕ = a ∷ c ∷ r ∷ (w + 2) ∷ [] in
       extend_by w check (a ∷ c ∷ r ∷ []) ((w + 2) ∷ []) (omega arith, tt)
       (from_size h (b.0, (b.1.0, (b.1.1.0, (omega arith, tt))))
-      (record { opens = o.first (omega arith); version_least = o.version_least (omega arith); cipher_most = o.cipher_most (omega arith); route_most = o.route_most (omega arith) })
+      (record { opens = o.opens (omega arith); version_least = o.version_least (omega arith); cipher_most = o.cipher_most (omega arith); route_most = o.route_most (omega arith) })
       (omega arith) (omega arith) (ap (λ (x : ℕ). byte h (2 + x)) d))
   from_start (a ∷ c ∷ r ∷ z ∷ h) t b o l = absurd (omega arith)
 
@@ -155,14 +148,14 @@ module _ (w : ℕ) (check : List ℕ → ℕ) where
       (from_start h t b (begun h k b r) s)
 
   module _ (h : List ℕ) (b : Bytes h) (header stop : ℕ) (m : Measured w h header stop) where
-    pub whole : stop ≤ length h → Agreeing w check h → Judged (Packet w check) h (Found stop)
+    pub whole : stop ≤ length h → Agrees w check h → Judged (Packet w check) h (Found stop)
     whole l a =
         let e = m.end_is in
         let k = whole_from w check h b header stop m (omega arith) a in
         let n = length-take-le (end h) h (omega arith) in
         (take (end h) h, drop (end h) h, k, sym (take-append-drop (end h) h), n ∙ sym e, omega (arith, (ours w check).short (take (end h) h) k))
 
-    pub unfinished : length h < stop → Agreeing w check h → Judged (Packet w check) h Maybe
+    pub unfinished : length h < stop → Agrees w check h → Judged (Packet w check) h Maybe
     unfinished l a =
         let e = m.end_is in
         possible h
@@ -172,5 +165,5 @@ module _ (w : ℕ) (check : List ℕ → ℕ) where
         omega (arith, ap length x.3, length-append x.0 x.1))
         (reach w check h b header stop m (omega arith) a)
 
-    pub disagreeing : ¬ Agreeing w check h → Judged (Packet w check) h Impossible
+    pub disagreeing : ¬ Agrees w check h → Judged (Packet w check) h Impossible
     disagreeing n = let t = m.size_there in impossible h (omega arith) (λ p k s. n (agreeing_of w check p h k s m.size_there m.size_least))

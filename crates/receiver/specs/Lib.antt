@@ -1,7 +1,6 @@
 pub mod Wire
 pub mod Rules
 pub mod Numbers
-pub mod Holding
 pub mod Calls
 pub mod Runs
 pub mod Law

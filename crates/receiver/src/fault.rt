@@ -1,28 +1,24 @@
 // What a receiver refuses.
-ghost use Rattle.std.specs.Prelude.{◌≡◌};
 ghost use Rattle.receiver.specs.Numbers.{number, layer};
 
-use basics::refusal::Layer;
+use basics::refusal::{Fault, Layer};
 
 #[derive(Clone, Copy, PartialEq, Eq, Debug)]
 pub enum ReceiverFault {
     // the buffer has no room for the longest packet
-    ShortBuffer,
+    ShortBuffer = 1,
 }
 
-impl ReceiverFault {
-    // The number that installers know the fault by.
-    pub fn number(self) -> u8
-        ensures { result ≡ number self }
-    {
-        match self {
-            ReceiverFault::ShortBuffer => 1,
-        }
+impl Fault for ReceiverFault {
+    ghost code = { number };
+
+    ghost told_by = { layer };
+
+    fn number(self) -> u8 {
+        self as u8
     }
 
-    pub fn layer(self) -> Layer
-        ensures { result ≡ layer self }
-    {
+    fn layer(self) -> Layer {
         Layer::Receiver
     }
 }

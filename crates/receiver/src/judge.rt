@@ -1,14 +1,12 @@
 // What the held bytes can become.
-ghost use Rattle.std.specs.Prelude.{◌≡◌};
 ghost use Rattle.packet.specs.Packet.{Packet};
-ghost use Rattle.packet.specs.Measured.{Measured};
 ghost use Rattle.receiver.specs.Judging.{Judged};
 
-use basics::number::are_lowest_bytes;
-use checks::check::{Check, check_of};
+use checks::check::Check;
 use packet::fault::PacketFault;
-use packet::measure::{Extent, measure};
+use packet::measure::measure;
 
+// The three cases that the rules of next tell apart.
 #[derive(Clone, Copy)]
 pub enum Verdict {
     // the first bytes, as many as this, are a packet
@@ -17,40 +15,19 @@ pub enum Verdict {
     Impossible,
 }
 
-// Whether the bytes begin with a packet, or could.
+// Whether the bytes begin with a packet, or could. The check is computed at most as often for a packet as it has bytes,
+// since it is looked at only once its first byte is there.
 pub fn judge<C: Check>(held: &[u8]) -> Verdict
-    ensures { Judged (Packet C.width C.meaning) held.now result }
+    ensures { Judged (Packet C.WIDTH C.meaning) held.now result }
 {
     match measure::<C>(held) {
-        Ok(extent) => weigh::<C>(held, extent, C::bytes()),
+        Ok(extent) if held.len() <= extent.check_place() => Verdict::Possible,
+        Ok(extent) if !extent.agrees() => Verdict::Impossible,
+        Ok(extent) if held.len() < extent.end => Verdict::Possible,
+        Ok(extent) => Verdict::Whole(extent.end),
         Err(refusal) => match refusal.fault {
             PacketFault::CutShort => Verdict::Possible,
             _ => Verdict::Impossible,
         },
-    }
-}
-
-// Compares the bytes of the check that are there, behind a header that was measured. The check is computed only once
-// its first byte is there, so at most as often for a packet as the check has bytes.
-fn weigh<C: Check>(held: &[u8], extent: Extent, w: usize) -> Verdict
-    requires wide { w ≡ C.width }
-    requires measured { Measured C.width held.now extent.header extent.end }
-    ensures { Judged (Packet C.width C.meaning) held.now result }
-{
-    let Extent { header, end } = extent;
-    let given = held.len();
-    let check_place = end - w;
-    if given <= check_place {
-        return Verdict::Possible;
-    }
-    let number = check_of::<C>(&held[header..check_place]);
-    let last = given.min(end);
-    if !are_lowest_bytes(&held[check_place..last], number) {
-        return Verdict::Impossible;
-    }
-    if given < end {
-        Verdict::Possible
-    } else {
-        Verdict::Whole(end)
     }
 }

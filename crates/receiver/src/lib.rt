@@ -7,7 +7,6 @@ mod held;
 mod judge;
 pub mod law;
 pub mod receiver;
-mod step;
 
 // The bytes of the longest packet. A buffer has to have room for as many.
 pub const LONGEST: usize = 263;

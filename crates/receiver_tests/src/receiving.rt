@@ -1,3 +1,4 @@
+use basics::refusal::Fault;
 use checks::check::Check;
 use checks::crc16::Crc16;
 use lines::memory::Memory;

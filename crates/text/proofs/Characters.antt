@@ -1,69 +1,96 @@
 -- Characters at the front of bytes.
-use Rattle.std.proofs.Common.{◌≡◌, ℕ, zero, suc, ◌<◌, ◌≤◌, false, eqb, List, [], ◌∷◌, ◌++◌, length, get_or, take, drop, sym, refl, subst, arith, length-drop, take-append-drop}
+use Rattle.std.proofs.Common.{◌≡◌, ℕ, ◌<◌, ◌⊎◌, inl, inr, List, [], ◌∷◌, ◌++◌, length, Some, None, Option, MatchOption, Bor, sym, refl, ap, ◌∙◌, subst, arith, length-append, get_or, drop, cond, ltb, ◌≤◌}
 use Rattle.std.proofs.lemmas.List.{drop_at}
-use Rattle.text.specs.Characters.{One, Two, Three, Four, Character, one, two, three, four, Begins}
-use Rattle.text.specs.Texts.{IsText, empty, next, First}
+use Rattle.std.proofs.lemmas.Bool.Decides.{nat_tests}
+use mathlib.Core.List.{head-eq_of_cons-eq, tail-eq_of_cons-eq}
+use Rattle.text.specs.Characters.{In, Tail, Second, One, Character, one, two, three, four}
+use Rattle.text.specs.Texts.{IsText, empty, next, ByteFirst, CharacterFirst, Absent}
 
--- what an empty test that fails tells
-pub not_empty : (xs : List ℕ) → false ≡ eqb (length xs) 0 → 0 < length xs
-not_empty [] e = let z : ◌≡◌ {A = ℕ} 0 1 = cc in absurd (omega arith)
-not_empty (x ∷ xs) e = omega arith
+-- what follows the first byte a of a character of two, three and four bytes
+abbrev pub TwoAfter : ℕ → List ℕ → List ℕ → Type 0
+TwoAfter a rest ys = ByteFirst (Second a) rest ys
 
--- the first four bytes, with 0 for those past the end, tell how long the first character is
-abbrev pub Told : ℕ → List ℕ → Type 0
-Told n xs = Begins n (get_or xs 0 0) (get_or xs 1 0) (get_or xs 2 0) (get_or xs 3 0)
+-- xs begin as R tells, then one more byte goes on with the character, and rest follows
+abbrev pub Then : (List ℕ → List ℕ → Type 0) → List ℕ → List ℕ → Type 0
+Then R rest xs = (zs : List ℕ) × R zs xs × ByteFirst Tail rest zs
 
--- a character at the front has the length that is told
-told_only : {c : List ℕ} → Character c → (s : List ℕ) (n : ℕ) → Told n (c ++ s) → length c ≡ n
-told_only (one h) s n t = sym (t.if_one h)
-told_only (two h) s n t = sym (t.if_two h)
-told_only (three h) s n t = sym (t.if_three h)
-told_only (four h) s n t = sym (t.if_four h)
+abbrev pub ThreeAfter : ℕ → List ℕ → List ℕ → Type 0
+ThreeAfter a = Then (TwoAfter a)
 
--- the first n bytes are there, and are a character
-abbrev Stands : ℕ → List ℕ → Type 0
-Stands n xs = (n ≤ length xs) × Character (take n xs)
+abbrev pub FourAfter : ℕ → List ℕ → List ℕ → Type 0
+FourAfter a = Then (ThreeAfter a)
 
-stands_one : (xs : List ℕ) → 0 < length xs → One (get_or xs 0 0) → Stands 1 xs
-stands_one [] some h = absurd (omega arith)
-stands_one (x ∷ xs) some h = (omega arith, one h)
+-- where nothing of the first kind stands, no more of it does
+absent_then : (R : List ℕ → List ℕ → Type 0) (xs : List ℕ) → Absent R xs → Absent (Then R) xs
+absent_then R xs none rest (zs, h, t) = none zs h
 
-stands_two : (xs : List ℕ) → Two (get_or xs 0 0) (get_or xs 1 0) → Stands 2 xs
-stands_two [] h = absurd (omega arith)
-stands_two (x ∷ []) h = absurd (omega arith)
-stands_two (x ∷ y ∷ xs) h = (omega arith, two h)
+-- where one does and zs follow it, zs tell whether more of it does
+told_then : (R : List ℕ → List ℕ → Type 0) (xs zs : List ℕ) → R zs xs → ((us : List ℕ) → R us xs → us ≡ zs) → (o : Option (Bor (List ℕ))) → MatchOption o (Absent (ByteFirst Tail) zs) (λ rest. ByteFirst Tail rest.now zs) → MatchOption o (Absent (Then R) xs) (λ rest. Then R rest.now xs)
+told_then R xs zs h once None none = λ rest (us, g, t). none rest (subst (ByteFirst Tail rest) (once us g) t)
+told_then R xs zs h once (Some rest) t = (zs, h, t)
 
-stands_three : (xs : List ℕ) → Three (get_or xs 0 0) (get_or xs 1 0) (get_or xs 2 0) → Stands 3 xs
-stands_three [] h = absurd (omega arith)
-stands_three (x ∷ []) h = absurd (omega arith)
-stands_three (x ∷ y ∷ []) h = absurd (omega arith)
-stands_three (x ∷ y ∷ z ∷ xs) h = (omega arith, three h)
+two_once : (a : ℕ) (r s xs : List ℕ) → TwoAfter a r xs → TwoAfter a s xs → s ≡ r
+two_once a r s xs (b, h, e) (c, g, f) = tail-eq_of_cons-eq (sym f ∙ e)
 
-stands_four : (xs : List ℕ) → Four (get_or xs 0 0) (get_or xs 1 0) (get_or xs 2 0) (get_or xs 3 0) → Stands 4 xs
-stands_four [] h = absurd (omega arith)
-stands_four (x ∷ []) h = absurd (omega arith)
-stands_four (x ∷ y ∷ []) h = absurd (omega arith)
-stands_four (x ∷ y ∷ z ∷ []) h = absurd (omega arith)
-stands_four (x ∷ y ∷ z ∷ w ∷ xs) h = (omega arith, four h)
+three_once : (a : ℕ) (r s xs : List ℕ) → ThreeAfter a r xs → ThreeAfter a s xs → s ≡ r
+three_once a r s xs (us, h, (b, t, e)) (vs, g, (c, u, f)) = tail-eq_of_cons-eq (sym f ∙ two_once a us vs xs h g ∙ e)
 
-told_stands : (n : ℕ) (xs : List ℕ) → 0 < length xs → Told n xs → 0 < n → Stands n xs
-told_stands zero xs some t above = absurd (omega arith)
-told_stands (suc zero) xs some t above = stands_one xs some (t.one refl)
-told_stands (suc (suc zero)) xs some t above = stands_two xs (t.two refl)
-told_stands (suc (suc (suc zero))) xs some t above = stands_three xs (t.three refl)
-told_stands (suc (suc (suc (suc zero)))) xs some t above = stands_four xs (t.four refl)
-told_stands (suc (suc (suc (suc (suc n))))) xs some t above = absurd (omega (arith, t.most))
+-- a is the first byte of a character, and the rest of it stands at the front of ys
+abbrev pub Led : ℕ → List ℕ → List ℕ → Type 0
+Led a rest ys = One a ⊎ ((In 0xC2 0xDF a × TwoAfter a rest ys) ⊎ ((In 0xE0 0xEF a × ThreeAfter a rest ys) ⊎ (In 0xF0 0xF4 a × FourAfter a rest ys)))
 
-told_within : (n : ℕ) (xs : List ℕ) → 0 < length xs → Told n xs → n ≤ length xs
-told_within zero xs some t = omega arith
-told_within (suc n) xs some t = (told_stands (suc n) xs some t (omega arith)).0
+led : (a : ℕ) (ys rest : List ℕ) {c : List ℕ} → Character c → a ∷ ys ≡ c ++ rest → Led a rest ys
+led a ys rest (one h) e = inl (subst One (sym (head-eq_of_cons-eq e)) h)
+led a ys rest (two {a = x} {b} h) e =
+    let first : x ≡ a = sym (head-eq_of_cons-eq e) in
+    inr (inl (subst (In 0xC2 0xDF) first h.0, (b, subst (λ (n : ℕ). Second n b) first h.1, tail-eq_of_cons-eq e)))
+led a ys rest (three {a = x} {b} {c} h) e =
+    let first : x ≡ a = sym (head-eq_of_cons-eq e) in
+    inr (inr (inl (subst (In 0xE0 0xEF) first h.0, (c ∷ rest, (b, subst (λ (n : ℕ). Second n b) first h.1, tail-eq_of_cons-eq e), (c, h.2, refl)))))
+led a ys rest (four {a = x} {b} {c} {d} h) e =
+    let first : x ≡ a = sym (head-eq_of_cons-eq e) in
+    inr (inr (inr (subst (In 0xF0 0xF4) first h.0, (d ∷ rest, (c ∷ d ∷ rest, (b, subst (λ (n : ℕ). Second n b) first h.1, tail-eq_of_cons-eq e), (c, h.2, refl)), (d, h.3, refl)))))
 
-pub told_first : (n : ℕ) (xs : List ℕ) → 0 < length xs → Told n xs → First n xs
-told_first n xs some t = record {
-  within = told_within n xs some t;
-  found = λ above. (told_stands n xs some t above).1;
-  only = λ c s h e. told_only h s n (subst (Told n) e t);
-}
+-- the bytes xs are a and then ys
+module _ (a : ℕ) (ys xs : List ℕ) (e : xs ≡ a ∷ ys) where
+  -- so they begin with a character only as a tells
+  pub not_led : ((rest : List ℕ) → Led a rest ys → ⊥) → Absent CharacterFirst xs
+  not_led none rest h = none rest (led a ys rest h.character (sym e ∙ h.bytes))
+
+  pub one_first : One a → CharacterFirst ys xs
+  one_first l = record { first = a ∷ []; character = one l; bytes = e }
+
+  -- and with one of two, three or four bytes where these bytes follow a
+  pub two_told : In 0xC2 0xDF a → (o : Option (Bor (List ℕ))) → MatchOption o (Absent (TwoAfter a) ys) (λ rest. TwoAfter a rest.now ys) → MatchOption o (Absent CharacterFirst xs) (λ rest. CharacterFirst rest.now xs)
+  two_told l None none = not_led (λ rest. elim [ inl h ↦ omega arith | inr (inl h) ↦ none rest h.1 | inr (inr (inl h)) ↦ omega arith | inr (inr (inr h)) ↦ omega arith ])
+  two_told l (Some rest) (b, s, f) = record { first = a ∷ b ∷ []; character = two (l, s); bytes = e ∙ ap (λ (t : List ℕ). a ∷ t) f }
+
+  three_told : In 0xE0 0xEF a → (o : Option (Bor (List ℕ))) → MatchOption o (Absent (ThreeAfter a) ys) (λ rest. ThreeAfter a rest.now ys) → MatchOption o (Absent CharacterFirst xs) (λ rest. CharacterFirst rest.now xs)
+  three_told l None none = not_led (λ rest. elim [ inl h ↦ omega arith | inr (inl h) ↦ omega arith | inr (inr (inl h)) ↦ none rest h.1 | inr (inr (inr h)) ↦ omega arith ])
+  three_told l (Some rest) (zs, (b, s, f), (c, t, g)) =
+      record { first = a ∷ b ∷ c ∷ []; character = three (l, s, t); bytes = e ∙ ap (λ (t : List ℕ). a ∷ t) (f ∙ ap (λ (t : List ℕ). b ∷ t) g) }
+
+  four_told : In 0xF0 0xF4 a → (o : Option (Bor (List ℕ))) → MatchOption o (Absent (FourAfter a) ys) (λ rest. FourAfter a rest.now ys) → MatchOption o (Absent CharacterFirst xs) (λ rest. CharacterFirst rest.now xs)
+  four_told l None none = not_led (λ rest. elim [ inl h ↦ omega arith | inr (inl h) ↦ omega arith | inr (inr (inl h)) ↦ omega arith | inr (inr (inr h)) ↦ none rest h.1 ])
+  four_told l (Some rest) (zs, (us, (b, s, f), (c, t, g)), (d, u, h)) =
+      record { first = a ∷ b ∷ c ∷ d ∷ []; character = four (l, s, t, u); bytes = e ∙ ap (λ (t : List ℕ). a ∷ t) (f ∙ ap (λ (t : List ℕ). b ∷ t) (g ∙ ap (λ (t : List ℕ). c ∷ t) h)) }
+
+  -- where no second byte follows a, or no third
+  pub three_without : In 0xE0 0xEF a → Absent (TwoAfter a) ys → Absent CharacterFirst xs
+  three_without l none = three_told l None (absent_then (TwoAfter a) ys none)
+
+  pub four_without : In 0xF0 0xF4 a → Absent (TwoAfter a) ys → Absent CharacterFirst xs
+  four_without l none = four_told l None (absent_then (ThreeAfter a) ys (absent_then (TwoAfter a) ys none))
+
+  pub four_short : In 0xF0 0xF4 a → (zs : List ℕ) → TwoAfter a zs ys → Absent (ByteFirst Tail) zs → Absent CharacterFirst xs
+  four_short l zs h none = four_told l None (absent_then (ThreeAfter a) ys (told_then (TwoAfter a) ys zs h (λ us. two_once a zs us ys h) None none))
+
+  -- where they do, and zs follow them
+  pub three_last : In 0xE0 0xEF a → (zs : List ℕ) → TwoAfter a zs ys → (o : Option (Bor (List ℕ))) → MatchOption o (Absent (ByteFirst Tail) zs) (λ rest. ByteFirst Tail rest.now zs) → MatchOption o (Absent CharacterFirst xs) (λ rest. CharacterFirst rest.now xs)
+  three_last l zs h o t = three_told l o (told_then (TwoAfter a) ys zs h (λ us. two_once a zs us ys h) o t)
+
+  pub four_last : In 0xF0 0xF4 a → (us zs : List ℕ) → TwoAfter a us ys → ByteFirst Tail zs us → (o : Option (Bor (List ℕ))) → MatchOption o (Absent (ByteFirst Tail) zs) (λ rest. ByteFirst Tail rest.now zs) → MatchOption o (Absent CharacterFirst xs) (λ rest. CharacterFirst rest.now xs)
+  four_last l us zs h g o t = four_told l o (told_then (ThreeAfter a) ys zs (us, h, g) (λ vs. three_once a zs vs ys (us, h, g)) o t)
 
 -- no character has no bytes
 some_bytes : {c : List ℕ} → Character c → 0 < length c
@@ -72,25 +99,52 @@ some_bytes (two h) = omega arith
 some_bytes (three h) = omega arith
 some_bytes (four h) = omega arith
 
-none_first : (c s : List ℕ) → Character c → [] ≡ c ++ s → length c ≡ 0
-none_first [] s h e = refl
-none_first (x ∷ c) s h e = let z : ◌≡◌ {A = ℕ} 0 1 = cc in absurd (omega arith)
+-- the first byte of a character tells how many bytes it has
+abbrev size : ℕ → ℕ
+size a = cond (ltb a 0x80) 1 (cond (ltb a 0xE0) 2 (cond (ltb a 0xF0) 3 4))
 
-pub first_none : First 0 []
-first_none = record { within = omega arith; found = λ above. absurd (omega arith); only = none_first }
+size_one : (a : ℕ) → a < 0x80 → size a ≡ 1
+size_one a h = grind (arith, nat_tests)
 
--- a text that is not empty begins with a character, and a text follows it
-after_text : {xs : List ℕ} (n : ℕ) → IsText xs → 0 < length xs → First n xs → (0 < n) × IsText (drop n xs)
-after_text n empty some f = absurd (omega arith)
-after_text n (next {c} {s} h t) some f =
-    let e : length c ≡ n = f.only c s h refl in
-    (omega (arith, some_bytes h, e), subst IsText (sym (drop_at c s n e)) t)
+size_two : (a : ℕ) → 0x80 ≤ a → a < 0xE0 → size a ≡ 2
+size_two a l h = grind (arith, nat_tests)
 
--- bytes that begin with no character are no text
-pub no_text : (xs : List ℕ) → 0 < length xs → First 0 xs → IsText xs → ⊥
-no_text xs some f t = omega (arith, (after_text 0 t some f).0)
+size_three : (a : ℕ) → 0xE0 ≤ a → a < 0xF0 → size a ≡ 3
+size_three a l h = grind (arith, nat_tests)
 
--- bytes that begin with a character are a text exactly when what follows it is one
-pub rest_of_text : (n : ℕ) (xs : List ℕ) → 0 < length xs → 0 < n → First n xs → (length (drop n xs) < length xs) × (IsText (drop n xs) → IsText xs) × (IsText xs → IsText (drop n xs))
-rest_of_text n xs some above f =
-    (simp length-drop (omega (arith, f.within)), (λ t. subst IsText (take-append-drop n xs) (next (f.found above) t)), (λ t. (after_text n t some f).1))
+size_four : (a : ℕ) → 0xF0 ≤ a → size a ≡ 4
+size_four a l = grind (arith, nat_tests)
+
+sized : {c : List ℕ} → Character c → (s : List ℕ) → length c ≡ size (get_or (c ++ s) 0 0)
+sized (one {a} h) s = sym (size_one a (omega arith))
+sized (two {a} h) s = sym (size_two a (omega arith) (omega arith))
+sized (three {a} h) s = sym (size_three a (omega arith) (omega arith))
+sized (four {a} h) s = sym (size_four a (omega arith))
+
+-- so one character only begins the bytes, and a text goes on with a text
+once : {c d : List ℕ} (s r : List ℕ) → Character c → Character d → c ++ s ≡ d ++ r → s ≡ r
+once {c} {d} s r h g e =
+    let same : length c ≡ length d = sized h s ∙ ap (λ (t : List ℕ). size (get_or t 0 0)) e ∙ sym (sized g r) in
+    sym (drop_at c s (length c) refl) ∙ ap (drop (length c)) e ∙ drop_at d r (length c) (sym same)
+
+of_begun : {rest xs ys : List ℕ} → CharacterFirst rest xs → IsText ys → xs ≡ ys → IsText rest
+of_begun h empty e = absurd (omega (arith, some_bytes h.character, ap length h.bytes, ap length e, length-append {A = ℕ}))
+of_begun h (next {c} {s} g t) e = subst IsText (once _ _ g h.character (sym e ∙ h.bytes)) t
+
+pub rest_of_text : {rest xs : List ℕ} → CharacterFirst rest xs → IsText xs → IsText rest
+rest_of_text h t = of_begun h t refl
+
+pub text_of_rest : {rest xs : List ℕ} → CharacterFirst rest xs → IsText rest → IsText xs
+text_of_rest h t = subst IsText (sym h.bytes) (next h.character t)
+
+-- bytes that begin with no character are a text only if there are none
+pub no_text : {xs : List ℕ} → Absent CharacterFirst xs → IsText xs → length xs ≡ 0
+no_text none empty = refl
+no_text none (next {c} {s} h t) = absurd (none s (record { first = c; character = h; bytes = refl }))
+
+pub empty_text : (xs : List ℕ) → length xs ≡ 0 → IsText xs
+empty_text [] e = empty
+empty_text (x ∷ xs) e = absurd (omega arith)
+
+-- what a character at the front tells of a text
+pub ruleset front_rules = (rest_of_text, text_of_rest, no_text, empty_text)

@@ -33,15 +33,3 @@ pub data Character : List ℕ → Type 0 where
   two : {a b : ℕ} → Two a b → Character (a ∷ b ∷ [])
   three : {a b c : ℕ} → Three a b c → Character (a ∷ b ∷ c ∷ [])
   four : {a b c d : ℕ} → Four a b c d → Character (a ∷ b ∷ c ∷ d ∷ [])
-
--- n is the length of the character that begins the bytes a, b, c and d, or 0 where none does
-pub record Begins (n a b c d : ℕ) : Type 0 where
-  pub most : n ≤ 4
-  pub one : n ≡ 1 → One a
-  pub two : n ≡ 2 → Two a b
-  pub three : n ≡ 3 → Three a b c
-  pub four : n ≡ 4 → Four a b c d
-  pub if_one : One a → n ≡ 1
-  pub if_two : Two a b → n ≡ 2
-  pub if_three : Three a b c → n ≡ 3
-  pub if_four : Four a b c d → n ≡ 4

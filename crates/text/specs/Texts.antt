@@ -1,5 +1,5 @@
 -- Texts, and the character at the front of bytes.
-use Rattle.std.specs.Prelude.{◌≡◌, ℕ, ◌<◌, ◌≤◌, List, [], ◌++◌, length, take}
+use Rattle.std.specs.Prelude.{◌≡◌, ℕ, List, [], ◌∷◌, ◌++◌}
 use Rattle.text.specs.Characters.{Character}
 
 -- a text is empty, or one character and then a text
@@ -7,8 +7,16 @@ pub data IsText : List ℕ → Type 0 where
   empty : IsText []
   next : {c s : List ℕ} → Character c → IsText s → IsText (c ++ s)
 
--- n is the length of the one character that the bytes xs begin with, or 0 where they begin with none
-pub record First (n : ℕ) (xs : List ℕ) : Type 0 where
-  pub within : n ≤ length xs
-  pub found : 0 < n → Character (take n xs)
-  pub only : (c s : List ℕ) → Character c → xs ≡ c ++ s → length c ≡ n
+-- xs begin with a byte of which P holds, and rest follows
+abbrev pub ByteFirst : (ℕ → Type 0) → List ℕ → List ℕ → Type 0
+ByteFirst P rest xs = (b : ℕ) × P b × (xs ≡ b ∷ rest)
+
+-- xs begin with a character, and rest follows
+pub record CharacterFirst (rest xs : List ℕ) : Type 0 where
+  pub first : List ℕ
+  pub character : Character first
+  pub bytes : xs ≡ first ++ rest
+
+-- xs begin with nothing of the kind that R tells
+abbrev pub Absent : (List ℕ → List ℕ → Type 0) → List ℕ → Type 0
+Absent R xs = (rest : List ℕ) → R rest xs → ⊥

@@ -1,58 +1,58 @@
 // The characters of UTF-8, by their first bytes.
-ghost use Rattle.std.specs.Prelude.{◌≡◌, MatchBool, slice_index};
-ghost use Rattle.text.specs.Characters.{Tail, Second, Begins};
-ghost use Rattle.text.specs.Texts.{First};
+ghost use Rattle.std.specs.Prelude.{IsTrue, ◌↔◌, MatchOption};
+ghost use Rattle.text.specs.Characters.{Tail, Second};
+ghost use Rattle.text.specs.Texts.{Absent, ByteFirst, CharacterFirst};
 
 // Whether `byte` goes on with a character.
 fn is_tail(byte: u8) -> bool
-    ensures { MatchBool result (Tail byte) (Tail byte → ⊥) }
+    ensures { IsTrue result ↔ Tail byte }
 {
-    0x80 <= byte && byte <= 0xBF
+    matches!(byte, 0x80..=0xBF)
 }
 
 // Whether `second` may stand after `lead`.
 fn may_follow(lead: u8, second: u8) -> bool
-    ensures { MatchBool result (Second lead second) (Second lead second → ⊥) }
+    ensures { IsTrue result ↔ Second lead second }
 {
     match lead {
-        0xE0 => 0xA0 <= second && second <= 0xBF,
-        0xED => 0x80 <= second && second <= 0x9F,
-        0xF0 => 0x90 <= second && second <= 0xBF,
-        0xF4 => 0x80 <= second && second <= 0x8F,
+        0xE0 => matches!(second, 0xA0..=0xBF),
+        0xED => matches!(second, 0x80..=0x9F),
+        0xF0 => matches!(second, 0x90..=0xBF),
+        0xF4 => matches!(second, 0x80..=0x8F),
         _ => is_tail(second),
     }
 }
 
-// The length of the character that begins with these bytes, or 0 where none does.
-fn length(lead: u8, second: u8, third: u8, fourth: u8) -> usize
-    ensures { Begins result lead second third fourth }
+// The bytes after the second byte of a character that begins with `lead`, or nothing where none stands there.
+fn after_second(lead: u8, bytes: &[u8]) -> Option<&[u8]>
+    ensures { MatchOption result (Absent (ByteFirst (Second lead)) bytes.now) (λ rest. ByteFirst (Second lead) rest.now bytes.now) }
 {
-    match lead {
-        0x00..=0x7F => 1,
-        0xC2..=0xDF if may_follow(lead, second) => 2,
-        0xE0..=0xEF if may_follow(lead, second) && is_tail(third) => 3,
-        0xF0..=0xF4 if may_follow(lead, second) && is_tail(third) && is_tail(fourth) => 4,
-        _ => 0,
+    match bytes {
+        [second, rest @ ..] if may_follow(lead, *second) => Some(rest),
+        _ => None,
     }
 }
 
-// The byte at `place`, or 0 past the end.
-fn at(bytes: &[u8], place: usize) -> u8
-    ensures { result ≡ slice_index bytes.now place }
+// The bytes after a byte that goes on with a character, likewise.
+fn after_tail(bytes: &[u8]) -> Option<&[u8]>
+    ensures { MatchOption result (Absent (ByteFirst Tail) bytes.now) (λ rest. ByteFirst Tail rest.now bytes.now) }
 {
-    match bytes.get(place) {
-        Some(byte) => *byte,
-        None => 0,
+    match bytes {
+        [byte, rest @ ..] if is_tail(*byte) => Some(rest),
+        _ => None,
     }
 }
 
-// The length of the character at the front of `bytes`, or 0 where none stands there. An absent byte is taken for 0,
-// which goes on with no character.
-pub(crate) fn first_character(bytes: &[u8]) -> usize
-    ensures { First result bytes.now }
+// The bytes after the character at the front of `bytes`, likewise.
+pub(crate) fn after_character(bytes: &[u8]) -> Option<&[u8]>
+    ensures { MatchOption result (Absent CharacterFirst bytes.now) (λ rest. CharacterFirst rest.now bytes.now) }
 {
-    if bytes.is_empty() {
-        return 0;
+    let (lead, rest) = bytes.split_first()?;
+    match *lead {
+        0x00..=0x7F => Some(rest),
+        0xC2..=0xDF => after_second(*lead, rest),
+        0xE0..=0xEF => after_tail(after_second(*lead, rest)?),
+        0xF0..=0xF4 => after_tail(after_tail(after_second(*lead, rest)?)?),
+        _ => None,
     }
-    length(at(bytes, 0), at(bytes, 1), at(bytes, 2), at(bytes, 3))
 }

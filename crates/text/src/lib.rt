@@ -1,13 +1,12 @@
 // Texts in UTF-8.
 #![tactic(auto)]
 
-ghost use Rattle.std.specs.Prelude.{MatchBool};
+ghost use Rattle.std.specs.Prelude.{IsTrue, ◌↔◌};
 ghost use Rattle.text.specs.Texts.{IsText};
 
 mod character;
-mod front;
 
-use front::{Front, front_of};
+use character::after_character;
 
 // A text, as what reads one hands it out.
 #[derive(Clone, Copy, PartialEq, Eq, Debug)]
@@ -16,12 +15,12 @@ pub struct Text<'a> {
 }
 
 // Whether `bytes` are a text: none, or a character and then a text.
+#[tactic(auto, using(crate::proofs::Characters::front_rules))]
 pub fn is_text(bytes: &[u8]) -> bool
-    ensures { MatchBool result (IsText bytes.now) (IsText bytes.now → ⊥) }
+    ensures { IsTrue result ↔ IsText bytes.now }
 {
-    match front_of(bytes) {
-        Front::End => true,
-        Front::Character { rest } => is_text(rest),
-        Front::Other => false,
+    match after_character(bytes) {
+        Some(rest) => is_text(rest),
+        None => bytes.is_empty(),
     }
 }

@@ -2,10 +2,8 @@
 // in words for those who answer installers' calls.
 #![tactic(auto)]
 
-mod data;
 mod receiving;
 mod report;
-mod show;
 mod values;
 
 use checks::check::Check;
@@ -23,7 +21,7 @@ const DAMAGED: [u8; 12] = [
 ];
 
 // What the library makes of these bytes.
-fn follow(rt: &HostRuntime, bytes: &[u8]) -> io::Result<()> {
+fn follow(rt: &impl Print, bytes: &[u8]) -> io::Result<()> {
     report::bytes(rt, bytes)?;
     let reading = read_packet::<Crc16>(bytes);
     if let Ok(packet) = reading {
@@ -31,7 +29,7 @@ fn follow(rt: &HostRuntime, bytes: &[u8]) -> io::Result<()> {
     }
     if let Ok(extent) = measure::<Crc16>(bytes) {
         report::extent(rt, extent)?;
-        report::data(rt, bytes, extent)?;
+        report::data(rt, extent)?;
     }
     match reading {
         Ok(_) => report::accepted(rt),

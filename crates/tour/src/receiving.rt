@@ -1,18 +1,18 @@
 // The packet on the wire, behind a false start.
-use crate::show;
-use crate::show::Hex;
+use basics::refusal::Fault;
 use checks::check::Check;
 use checks::crc16::Crc16;
 use lines::memory::Memory;
 use receiver::LONGEST;
 use receiver::answer::Answer;
 use receiver::receiver::Receiver;
+use show::Hex;
 use std::io;
 
 // The header of a packet of which nothing more came.
 const FALSE_START: [u8; 4] = [0x75, 0x08, 0xFF, 0x05];
 
-pub(crate) fn follow(rt: &HostRuntime, packet: &[u8]) -> io::Result<()> {
+pub(crate) fn follow(rt: &impl Print, packet: &[u8]) -> io::Result<()> {
     let mut receiver = Receiver::<Crc16>::new();
     arrive(rt, &mut receiver, &FALSE_START)?;
     arrive(rt, &mut receiver, packet)?;
@@ -24,7 +24,7 @@ pub(crate) fn follow(rt: &HostRuntime, packet: &[u8]) -> io::Result<()> {
 }
 
 // These bytes come, and the receiver is asked once.
-fn arrive(rt: &HostRuntime, receiver: &mut Receiver<Crc16>, bytes: &[u8]) -> io::Result<()> {
+fn arrive(rt: &impl Print, receiver: &mut Receiver<Crc16>, bytes: &[u8]) -> io::Result<()> {
     if bytes.len() > 0 {
         println!(rt; "  these bytes come  {}", Hex(bytes))?;
     }
@@ -36,11 +36,11 @@ fn arrive(rt: &HostRuntime, receiver: &mut Receiver<Crc16>, bytes: &[u8]) -> io:
     }
 }
 
-fn told(rt: &HostRuntime, answer: Answer, buffer: &[u8], held: usize) -> io::Result<()> {
+fn told(rt: &impl Print, answer: Answer, buffer: &[u8], held: usize) -> io::Result<()> {
     match answer {
         Answer::Packet(length) => {
-            let shown = show::first(buffer, length);
-            println!(rt; "  packet            {}", Hex(shown))
+            let packet = buffer.get(..length).unwrap_or(buffer);
+            println!(rt; "  packet            {}", Hex(packet))
         }
         Answer::Noise(count) => println!(rt;
             "  noise             {count} bytes, which begin no packet"

@@ -1,29 +1,25 @@
 // The steps of the report.
-use crate::show::{Hex, Optional};
-use crate::{data, show};
 use basics::refusal::Refusal;
-use checks::crc16::crc16_of;
+use checks::crc16::{Crc16, crc16_of};
 use packet::fault::PacketFault;
 use packet::header::Header;
 use packet::measure::Extent;
+use show::{Hex, Optional, YesNo};
 use std::io;
 
-pub(crate) fn bytes(rt: &HostRuntime, bytes: &[u8]) -> io::Result<()> {
+pub(crate) fn bytes(rt: &impl Print, bytes: &[u8]) -> io::Result<()> {
     println!(rt; "  as it came        {}", Hex(bytes))
 }
 
-pub(crate) fn header(rt: &HostRuntime, header: Header) -> io::Result<()> {
-    println!(rt; "  priority          {}", show::yes_no(header.priority))?;
-    println!(rt;
-        "  broadcast         {}",
-        show::yes_no(header.is_broadcast())
-    )?;
+pub(crate) fn header(rt: &impl Print, header: Header) -> io::Result<()> {
+    println!(rt; "  priority          {}", YesNo(header.priority))?;
+    println!(rt; "  broadcast         {}", YesNo(header.is_broadcast()))?;
     println!(rt; "  version           {}", header.version)?;
     println!(rt; "  cipher            {}", header.cipher)?;
     addresses(rt, header)
 }
 
-fn addresses(rt: &HostRuntime, header: Header) -> io::Result<()> {
+fn addresses(rt: &impl Print, header: Header) -> io::Result<()> {
     println!(rt; "  route             {}", Optional(header.route))?;
     println!(rt; "  source segment    {}", Optional(header.source_segment))?;
     println!(rt; "  source address    {}", header.source)?;
@@ -31,18 +27,21 @@ fn addresses(rt: &HostRuntime, header: Header) -> io::Result<()> {
     println!(rt; "  target address    {}", Optional(header.target))
 }
 
-pub(crate) fn extent(rt: &HostRuntime, extent: Extent) -> io::Result<()> {
-    let Extent { header, end } = extent;
-    let size = end.saturating_sub(header);
+pub(crate) fn extent(rt: &impl Print, extent: Extent<'_, Crc16>) -> io::Result<()> {
+    let header = extent.header;
+    let size = extent.end.saturating_sub(header);
     println!(rt; "  header length     {header} bytes")?;
     println!(rt; "  size              {size} bytes: the message and its check")
 }
 
-// The message, and its check as it should be and as it is.
-pub(crate) fn data(rt: &HostRuntime, bytes: &[u8], extent: Extent) -> io::Result<()> {
-    let Some((message, found)) = data::of(bytes, extent) else {
+// The message, and its check as it should be and as it is, where the data are all there.
+pub(crate) fn data(rt: &impl Print, extent: Extent<'_, Crc16>) -> io::Result<()> {
+    let Some(message) = extent.message() else {
         return Ok(());
     };
+    if extent.bytes.len() < extent.end {
+        return Ok(());
+    }
     let computed = crc16_of(message).to_le_bytes();
     println!(rt;
         "  message           {}, from byte {} on",
@@ -53,18 +52,13 @@ pub(crate) fn data(rt: &HostRuntime, bytes: &[u8], extent: Extent) -> io::Result
         "  check computed    {}, over the message alone",
         Hex(&computed)
     )?;
-    println!(rt; "  check found       {}", Hex(found))
+    println!(rt; "  check found       {}", Hex(extent.found()))
 }
 
-pub(crate) fn accepted(rt: &HostRuntime) -> io::Result<()> {
+pub(crate) fn accepted(rt: &impl Print) -> io::Result<()> {
     println!(rt; "  verdict           a packet")
 }
 
-pub(crate) fn refused(rt: &HostRuntime, refusal: Refusal<PacketFault>) -> io::Result<()> {
-    let Refusal { fault, place } = refusal;
-    let layer = show::layer_name(fault.layer());
-    let number = fault.number();
-    println!(rt;
-        "  verdict           refused by the {layer} layer: number {number} at byte {place}"
-    )
+pub(crate) fn refused(rt: &impl Print, refusal: Refusal<PacketFault>) -> io::Result<()> {
+    println!(rt; "  verdict           refused {refusal}")
 }

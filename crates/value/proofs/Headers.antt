@@ -18,18 +18,7 @@ pub record Known (k : Kind) : Type 0 where
 
 pub known : (k : Kind) → Known k
 known kind.I8 = record { low = omega arith; high = omega arith; used = λ e. omega arith; told = refl }
-known kind.U8 = record { low = omega arith; high = omega arith; used = λ e. omega arith; told = refl }
-known kind.I16 = record { low = omega arith; high = omega arith; used = λ e. omega arith; told = refl }
-known kind.U16 = record { low = omega arith; high = omega arith; used = λ e. omega arith; told = refl }
-known kind.I32 = record { low = omega arith; high = omega arith; used = λ e. omega arith; told = refl }
-known kind.U32 = record { low = omega arith; high = omega arith; used = λ e. omega arith; told = refl }
-known kind.F32 = record { low = omega arith; high = omega arith; used = λ e. omega arith; told = refl }
-known kind.I64 = record { low = omega arith; high = omega arith; used = λ e. omega arith; told = refl }
-known kind.U64 = record { low = omega arith; high = omega arith; used = λ e. omega arith; told = refl }
-known kind.F64 = record { low = omega arith; high = omega arith; used = λ e. omega arith; told = refl }
-known kind.Text = record { low = omega arith; high = omega arith; used = λ e. omega arith; told = refl }
-known kind.Time = record { low = omega arith; high = omega arith; used = λ e. omega arith; told = refl }
-known kind.Bytes = record { low = omega arith; high = omega arith; used = λ e. omega arith; told = refl }
+known k = record { low = omega arith; high = omega arith; used = λ e. omega arith; told = refl }
 
 -- types with the same number are the same
 pub kind_once : (j k : Kind) → type_number j ≡ type_number k → j ≡ k

@@ -2,8 +2,9 @@
 use Rattle.std.proofs.Common.{◌≡◌, ℕ, zero, suc, ◌+◌, ◌*◌, ◌/◌, ◌%◌, ◌^◌, ◌<◌, ◌≤◌, cond, eqb, List, [], ◌∷◌, ◌++◌, length, get_or, drop, Some, None, Option, refl, ap, ◌∙◌, mod-eq_of_lt, add_comm, arith, drop-cons}
 use native.Mathlib.Nat.{div-add-mod}
 use Rattle.std.proofs.lemmas.List.{drop_all}
-use Rattle.value.specs.Times.{bits, layout, flag, date_fields, clock_fields, written_time, LawfulDate, LawfulClock, IfThere, LawfulTime}
-use Rattle.value.specs.Moments.{bit, FitsBits}
+use Rattle.value.specs.Times.{bits, layout, fields, no_date, no_clock, date_fields, clock_fields, written_time, LawfulDate, LawfulClock, IfThere, LawfulTime}
+use Rattle.basics.specs.Bits.{bit, present}
+use Rattle.value.specs.Moments.{FitsBits}
 use Rattle.value.specs.declared.time.Clock.{Clock}
 use Rattle.value.specs.declared.time.Date.{Date}
 use Rattle.value.specs.declared.time.Time.{Time}
@@ -135,7 +136,7 @@ fits_clock : (o : Option Clock) → IfThere LawfulClock o → ((clock_fields o).
 fits_clock None l = (omega arith, omega arith, omega arith, omega arith)
 fits_clock (Some c) l = (omega arith, omega arith, omega arith, omega arith)
 
-flag_low : {T : Type 0} (o : Option T) → flag o < 2
+flag_low : {T : Type 0} (o : Option T) → present o < 2
 flag_low None = omega arith
 flag_low (Some x) = omega arith
 
@@ -143,13 +144,9 @@ flag_low (Some x) = omega arith
 abbrev part_in : {T : Type 0} → ℕ → T → Option T
 part_in n x = cond (eqb n 1) (Some x) None
 
-date_part : (o : Option Date) → part_in (flag o) (date_fields o) ≡ o
-date_part None = refl
-date_part (Some d) = refl
-
-clock_part : (o : Option Clock) → part_in (flag o) (clock_fields o) ≡ o
-clock_part None = refl
-clock_part (Some c) = refl
+part_back : {T : Type 0} (absent : T) (o : Option T) → part_in (present o) (fields absent o) ≡ o
+part_back absent None = refl
+part_back absent (Some x) = refl
 
 -- the time that eight bytes hold
 abbrev pub time_in : List ℕ → Time
@@ -164,6 +161,6 @@ time_back t r l =
     let f = flag_low t.date in
     let g = flag_low t.clock in
     let flags = flags_back _ _ _ _ r f g h in
-    let date : (time_in (written_time t ++ r)).date ≡ t.date = (λ i. part_in (flags.0 i) (date_back _ _ _ _ r f g h i)) ∙ date_part t.date in
-    let clock : (time_in (written_time t ++ r)).clock ≡ t.clock = (λ i. part_in (flags.1 i) (clock_back _ _ _ _ r f g h i)) ∙ clock_part t.clock in
+    let date : (time_in (written_time t ++ r)).date ≡ t.date = (λ i. part_in (flags.0 i) (date_back _ _ _ _ r f g h i)) ∙ part_back no_date t.date in
+    let clock : (time_in (written_time t ++ r)).clock ≡ t.clock = (λ i. part_in (flags.1 i) (clock_back _ _ _ _ r f g h i)) ∙ part_back no_clock t.clock in
     λ i. record { date = date i; clock = clock i }

@@ -7,8 +7,9 @@ use Rattle.basics.proofs.Littles.{length_little}
 use Rattle.basics.specs.Little.{little}
 use Rattle.fields.specs.Parts.{counted_part}
 use Rattle.value.specs.Kinds.{Form, signed, unsigned, floating, timed, counted, form, type_number, header_byte, val_of, type_of}
-use Rattle.value.specs.Laws.{OneReading, ReadsBack, WritesBack}
-use Rattle.value.specs.Signed.{FitsSigned, complement}
+use Rattle.value.specs.Laws.{OneReading, ReadsBack, WritesBack, Laws}
+use Rattle.fields.specs.Numbers.{complement}
+use Rattle.value.specs.Signed.{FitsSigned}
 use Rattle.value.specs.Values.{Val, absent, integer, natural, float, text, time, array, kind_of, val, contents, written, Lawful}
 use Rattle.value.specs.declared.kind.Kind.{Kind}
 use Rattle.value.specs.declared.kind.Kind.TheVariants as kind
@@ -97,8 +98,11 @@ one_reading v w r s xs a b =
     let same : ◌≡◌ {A = Pair} (v, r) (w, s) = sym (value_back v r a.lawful) ∙ ap value_in (sym a.bytes ∙ b.bytes) ∙ value_back w s b.lawful in
     (ap (λ (p : Pair). p.0) same, ap (λ (p : Pair). p.1) same)
 
-pub reads_back : ReadsBack
+reads_back : ReadsBack
 reads_back v r l = ((λ f no. no.unread v r (record { lawful = l; bytes = refl })), (λ w s d. one_reading w v s r _ d (record { lawful = l; bytes = refl })))
 
-pub writes_back : WritesBack
+writes_back : WritesBack
 writes_back v r xs d = sym d.bytes
+
+pub laws : Laws
+laws = record { one_reading = one_reading; reads_back = reads_back; writes_back = writes_back }

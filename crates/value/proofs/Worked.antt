@@ -15,7 +15,7 @@ zhe : IsText (0xD0 ∷ 0x96 ∷ [])
 zhe = next (two ((omega arith, omega arith), ((omega arith, omega arith), (λ e. omega arith), (λ e. omega arith), (λ e. omega arith), (λ e. omega arith)))) empty
 
 overlong : {xs : List ℕ} → IsText xs → xs ≡ 0xC0 ∷ 0x80 ∷ [] → ⊥
-overlong empty e = let z : ◌≡◌ {A = ℕ} 0 1 = cc in omega arith
+overlong empty e = cc
 overlong (next (one h) t) e = omega (arith, head-eq_of_cons-eq e)
 overlong (next (two h) t) e = omega (arith, head-eq_of_cons-eq e)
 overlong (next (three h) t) e = omega (arith, head-eq_of_cons-eq e)

@@ -1,7 +1,9 @@
 -- The types of values, and the header that tells one.
-use Rattle.std.specs.Prelude.{ℕ, ◌+◌, ◌*◌, ◌/◌, ◌%◌}
+use Rattle.std.specs.Prelude.{◌≡◌, ℕ, ◌+◌, ◌*◌, ◌/◌, ◌%◌, ◌<◌, ◌≤◌, ◌⊎◌, Result, MatchResult}
 use Rattle.value.specs.declared.kind.Kind.{Kind}
 use Rattle.value.specs.declared.kind.Kind.TheVariants as kind
+use Rattle.value.specs.declared.kind.KindFault.{KindFault}
+use Rattle.value.specs.declared.kind.KindFault.TheVariants as fault
 
 -- the number of each type
 abbrev pub type_number : Kind → ℕ
@@ -18,6 +20,19 @@ type_number kind.F64 = 11
 type_number kind.Text = 12
 type_number kind.Time = 14
 type_number kind.Bytes = 15
+
+-- the numbers that no type has
+abbrev pub Unused : ℕ → Type 0
+Unused t = (t ≤ 1) ⊎ (t ≡ 13)
+
+-- why no type has the number t
+abbrev pub NoType : KindFault → ℕ → Type 0
+NoType fault.Above t = 15 < t
+NoType fault.Unused t = Unused t
+
+-- the type that has the number t, or why none has
+abbrev pub TypeTold : ℕ → Result Kind KindFault → Type 0
+TypeTold t r = MatchResult r (λ k. type_number k ≡ t) (λ f. NoType f t)
 
 -- a header: VAL in bit 7, 0 in bits 6 and 5, TYPE in bits 4 to 0
 abbrev pub header_byte : ℕ → Kind → ℕ

@@ -1,14 +1,12 @@
 -- Eight bytes by the layout of a time, whether it is lawful or not.
-use Rattle.std.specs.Prelude.{◌≡◌, ℕ, ◌^◌, ◌<◌, Bool, true, false, List, ◌++◌, Option, ◌≢◌}
-use Rattle.value.specs.Times.{layout, flag, date_fields, clock_fields, IfThere, LawfulDate, LawfulClock, LawfulTime, written_time}
+use Rattle.std.specs.Prelude.{◌≡◌, ℕ, ◌^◌, ◌<◌, List, ◌++◌, Option, ◌≢◌}
+use Rattle.value.specs.Times.{layout, fields, IfThere, LawfulTime, written_time}
+use Rattle.basics.specs.Bits.{bit, present}
 use Rattle.value.specs.declared.moment.Fields.{Fields}
+use Rattle.value.specs.declared.moment.Flagged.{Flagged}
 use Rattle.value.specs.declared.time.Clock.{Clock}
 use Rattle.value.specs.declared.time.Date.{Date}
 use Rattle.value.specs.declared.time.Time.{Time}
-
-abbrev pub bit : Bool → ℕ
-bit true = 1
-bit false = 0
 
 -- each field fits its bits
 pub record FitsBits (d : Date) (c : Clock) : Type 0 where
@@ -23,30 +21,21 @@ pub record FitsBits (d : Date) (c : Clock) : Type 0 where
 
 -- the bytes xs hold the fields f
 pub record LaidOut (f : Fields) (xs : List ℕ) : Type 0 where
-  pub fits : FitsBits f.date f.clock
-  pub bytes : xs ≡ layout (bit f.dated) (bit f.timed) f.date f.clock
+  pub fits : FitsBits f.date.fields f.clock.fields
+  pub bytes : xs ≡ layout (bit f.date.flag) (bit f.clock.flag) f.date.fields f.clock.fields
 
 -- the bytes xs are no layout: a reserved bit is set, or two flags of one name differ
 abbrev pub NoLayout : List ℕ → Type 0
 NoLayout xs = (DF TF : ℕ) (d : Date) (c : Clock) → xs ≢ layout DF TF d c
 
--- a flag b and the fields d are those of the lawful date o, or of none
-pub record DateTold (b : Bool) (d : Date) (o : Option Date) : Type 0 where
-  pub flagged : bit b ≡ flag o
-  pub fields : d ≡ date_fields o
-  pub lawful : IfThere LawfulDate o
+-- a flag and the fields beside it are those of the part o, of which L holds, or of none
+pub record PartTold {T : Type 0} (L : T → Type 0) (absent : T) (f : Flagged T) (o : Option T) : Type 0 where
+  pub flagged : bit f.flag ≡ present o
+  pub fields : f.fields ≡ fields absent o
+  pub lawful : IfThere L o
 
-abbrev pub NoDate : Bool → Date → Type 0
-NoDate b d = (o : Option Date) → DateTold b d o → ⊥
-
--- and those of the lawful time of day o, or of none
-pub record ClockTold (b : Bool) (c : Clock) (o : Option Clock) : Type 0 where
-  pub flagged : bit b ≡ flag o
-  pub fields : c ≡ clock_fields o
-  pub lawful : IfThere LawfulClock o
-
-abbrev pub NoClock : Bool → Clock → Type 0
-NoClock b c = (o : Option Clock) → ClockTold b c o → ⊥
+abbrev pub NoPart : {T : Type 0} → (T → Type 0) → T → Flagged T → Type 0
+NoPart {T} L absent f = (o : Option T) → PartTold L absent f o → ⊥
 
 -- the bytes xs are those of the lawful time t
 pub record TimeTold (t : Time) (xs : List ℕ) : Type 0 where

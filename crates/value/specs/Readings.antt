@@ -2,7 +2,7 @@
 use Rattle.std.specs.Prelude.{◌≡◌, ℕ, ◌<◌, ◌≤◌, ◌⊎◌, List, [], ◌∷◌, ◌++◌, length, ◌≢◌}
 use Rattle.value.specs.Faults.{fault_number}
 use Rattle.fields.specs.Parts.{PartCut, PartNoText}
-use Rattle.value.specs.Kinds.{Form, signed, unsigned, floating, timed, counted, form, type_number, val_of, reserved_of, type_of}
+use Rattle.value.specs.Kinds.{Form, signed, unsigned, floating, timed, counted, form, type_number, Unused, val_of, reserved_of, type_of}
 use Rattle.value.specs.Times.{LawfulTime, written_time}
 use Rattle.value.specs.Values.{Val, written, Lawful}
 use Rattle.value.specs.declared.fault.ValueFault.{ValueFault}
@@ -15,10 +15,6 @@ use Rattle.value.specs.declared.time.Time.{Time}
 pub record Reads (v : Val) (rest xs : List ℕ) : Type 0 where
   pub lawful : Lawful v
   pub bytes : xs ≡ written v ++ rest
-
--- the types that no value has
-abbrev pub Unused : ℕ → Type 0
-Unused t = (t ≤ 1) ⊎ (t ≡ 13)
 
 -- the bytes end before data of that form do
 abbrev pub Short : Form → List ℕ → Type 0

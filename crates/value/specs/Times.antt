@@ -1,5 +1,6 @@
 -- Times in eight bytes.
 use Rattle.std.specs.Prelude.{ℕ, suc, ◌+◌, ◌-◌, ◌*◌, ◌/◌, ◌%◌, ◌^◌, ◌<◌, ◌≤◌, List, [], ◌∷◌, Some, None, Option}
+use Rattle.basics.specs.Bits.{present}
 use Rattle.value.specs.declared.time.Date.{Date}
 use Rattle.value.specs.declared.time.Clock.{Clock}
 use Rattle.value.specs.declared.time.Time.{Time}
@@ -22,21 +23,26 @@ layout DF TF d c =
     ∷ (32 * bits 2 0 d.weekday + bits 9 5 c.millisecond)
     ∷ []
 
--- a flag tells whether a part of the time is there, and the fields of an absent part are 0
-abbrev pub flag : {T : Type 0} → Option T → ℕ
-flag None = 0
-flag (Some x) = 1
+-- the fields of a part of the time: those of an absent part are 0
+abbrev pub fields : {T : Type 0} → T → Option T → T
+fields absent None = absent
+fields absent (Some x) = x
+
+abbrev pub no_date : Date
+no_date = record { year = 0; month = 0; day = 0; weekday = 0 }
+
+abbrev pub no_clock : Clock
+no_clock = record { hour = 0; minute = 0; second = 0; millisecond = 0 }
 
 abbrev pub date_fields : Option Date → Date
-date_fields None = record { year = 0; month = 0; day = 0; weekday = 0 }
-date_fields (Some d) = d
+date_fields = fields no_date
 
 abbrev pub clock_fields : Option Clock → Clock
-clock_fields None = record { hour = 0; minute = 0; second = 0; millisecond = 0 }
-clock_fields (Some c) = c
+clock_fields = fields no_clock
 
+-- its flag tells whether a part is there
 abbrev pub written_time : Time → List ℕ
-written_time t = layout (flag t.date) (flag t.clock) (date_fields t.date) (clock_fields t.clock)
+written_time t = layout (present t.date) (present t.clock) (date_fields t.date) (clock_fields t.clock)
 
 abbrev pub LawfulDate : Date → Type 0
 LawfulDate d = (d.year < 2 ^ 14) × (1 ≤ d.month) × (d.month ≤ 12) × (1 ≤ d.day) × (d.day ≤ 31) × (d.weekday ≤ 6)

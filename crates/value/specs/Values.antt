@@ -2,7 +2,8 @@
 use Rattle.std.specs.Prelude.{◌≡◌, ℕ, ◌^◌, ◌<◌, List, [], ◌∷◌, length, ℤ}
 use Rattle.basics.specs.Little.{little}
 use Rattle.text.specs.Texts.{IsText}
-use Rattle.value.specs.Signed.{FitsSigned, complement}
+use Rattle.fields.specs.Numbers.{complement}
+use Rattle.value.specs.Signed.{FitsSigned}
 use Rattle.fields.specs.Parts.{counted_part}
 use Rattle.value.specs.Kinds.{header_byte, form, signed, unsigned, floating}
 use Rattle.value.specs.Times.{LawfulTime, written_time}

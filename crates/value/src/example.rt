@@ -2,6 +2,7 @@
 ghost use Rattle.std.specs.Prelude.{◌≡◌, true};
 ghost use Rattle.value.specs.Examples.{Examples};
 
+#[tactic(auto, using(crate::proofs::Worked::examples))]
 fn show_examples()
     ensures { Examples }
 {}

@@ -1,8 +1,10 @@
 // What can be wrong with a value.
+ghost use Rattle.value.specs.Faults.{fault_number, fault_layer, kind_wrong, text_wrong};
 ghost use Rattle.std.specs.Prelude.{◌≡◌};
-ghost use Rattle.value.specs.Faults.{fault_number, fault_layer};
 
-use basics::refusal::Layer;
+use crate::kind::KindFault;
+use basics::refusal::{Fault, Layer};
+use fields::part::TextFault;
 
 #[derive(Clone, Copy, PartialEq, Eq, Debug)]
 pub enum ValueFault {
@@ -14,18 +16,40 @@ pub enum ValueFault {
     Time = 35,
 }
 
-impl ValueFault {
-    // The number by which the fault is told.
-    pub fn number(self) -> u8
-        ensures { result ≡ fault_number self }
-    {
+impl Fault for ValueFault {
+    ghost code = { fault_number };
+
+    ghost told_by = { fault_layer };
+
+    fn number(self) -> u8 {
         self as u8
     }
 
-    // The layer that refuses for it.
-    pub fn layer(self) -> Layer
-        ensures { result ≡ fault_layer self }
-    {
+    fn layer(self) -> Layer {
         Layer::Value
+    }
+}
+
+// What is wrong with a value whose header tells no type.
+impl From<KindFault> for ValueFault {
+    ghost from_gives = { λ k f. f ≡ kind_wrong k };
+
+    fn from(fault: KindFault) -> ValueFault {
+        match fault {
+            KindFault::Above => ValueFault::TypeAbove,
+            KindFault::Unused => ValueFault::TypeUnused,
+        }
+    }
+}
+
+// What is wrong with a value whose data are no text.
+impl From<TextFault> for ValueFault {
+    ghost from_gives = { λ t f. f ≡ text_wrong t };
+
+    fn from(fault: TextFault) -> ValueFault {
+        match fault {
+            TextFault::Cut => ValueFault::Cut,
+            TextFault::NoText => ValueFault::Text,
+        }
     }
 }

@@ -2,6 +2,7 @@
 ghost use Rattle.std.specs.Prelude.{◌≡◌, true};
 ghost use Rattle.value.specs.Laws.{Laws};
 
+#[tactic(auto, using(crate::proofs::Uniqueness::laws))]
 fn show_laws()
     ensures { Laws }
 {}

@@ -7,6 +7,5 @@ pub mod kind;
 pub mod law;
 mod moment;
 pub mod read;
-mod signed;
 pub mod time;
 pub mod universal;

@@ -1,6 +1,9 @@
 // Dates and times of day.
-ghost use Rattle.std.specs.Prelude.{MatchBool};
-ghost use Rattle.value.specs.Times.{LawfulDate, LawfulClock};
+ghost use Rattle.std.specs.Prelude.{◌≡◌, ◌↔◌, IsTrue};
+ghost use Rattle.std.proofs.Common.{rules};
+ghost use Rattle.value.specs.Times.{no_date, no_clock, LawfulDate, LawfulClock};
+
+use std::fmt;
 
 #[derive(Clone, Copy, PartialEq, Eq, Debug)]
 pub struct Date {
@@ -25,19 +28,61 @@ pub struct Time {
     pub clock: Option<Clock>,
 }
 
-impl Date {
-    // The fields of an absent date.
-    pub const ZERO: Date = Date {
+// The date alone, as a year, a month and a day.
+impl fmt::Display for Date {
+    fn fmt<W: fmt::Write>(&self, f: &mut fmt::Formatter<W>) -> fmt::Result {
+        let Date {
+            year,
+            month,
+            day,
+            ..
+        } = *self;
+        write!(f, "{year}-{month:02}-{day:02}")
+    }
+}
+
+impl fmt::Display for Clock {
+    fn fmt<W: fmt::Write>(&self, f: &mut fmt::Formatter<W>) -> fmt::Result {
+        let Clock {
+            hour,
+            minute,
+            second,
+            millisecond,
+        } = *self;
+        write!(f, "{hour:02}:{minute:02}:{second:02}.{millisecond:03}")
+    }
+}
+
+// A part of a time: a date or a time of day.
+pub trait TimePart: Copy + PartialEq {
+    // The fields of an absent part.
+    const ZERO: Self;
+
+    ghost ZERO: { Self };
+
+    ghost lawful: { Self → Type 0 };
+
+    // Whether a value may hold this part.
+    fn is_lawful(self) -> bool
+        ensures { IsTrue result ↔ lawful self };
+
+    // Parts are equal exactly where they are the same.
+    ghost same: { (x y : Self) → IsTrue (Self.eq x y) ↔ (x ≡ y) };
+}
+
+impl TimePart for Date {
+    const ZERO: Date = Date {
         year: 0,
         month: 0,
         day: 0,
         weekday: 0,
     };
 
-    // Whether a value may hold this date.
-    pub fn is_lawful(self) -> bool
-        ensures { MatchBool result (LawfulDate self) (LawfulDate self → ⊥) }
-    {
+    ghost ZERO = { no_date };
+
+    ghost lawful = { LawfulDate };
+
+    fn is_lawful(self) -> bool {
         self.year < 16384
             && 1 <= self.month
             && self.month <= 12
@@ -45,21 +90,25 @@ impl Date {
             && self.day <= 31
             && self.weekday <= 6
     }
+
+    ghost same = { Prim.search rules };
 }
 
-impl Clock {
-    // The fields of an absent time of day.
-    pub const ZERO: Clock = Clock {
+impl TimePart for Clock {
+    const ZERO: Clock = Clock {
         hour: 0,
         minute: 0,
         second: 0,
         millisecond: 0,
     };
 
-    // Whether a value may hold this time of day.
-    pub fn is_lawful(self) -> bool
-        ensures { MatchBool result (LawfulClock self) (LawfulClock self → ⊥) }
-    {
+    ghost ZERO = { no_clock };
+
+    ghost lawful = { LawfulClock };
+
+    fn is_lawful(self) -> bool {
         self.hour <= 23 && self.minute <= 59 && self.second <= 59 && self.millisecond <= 999
     }
+
+    ghost same = { Prim.search rules };
 }

@@ -2,7 +2,7 @@
 
 #[cfg(test)]
 mod tests {
-    use basics::refusal::Layer;
+    use basics::refusal::{Fault, Layer};
     use std::process::Abort;
     use std::test::Fail;
     use text::Text;

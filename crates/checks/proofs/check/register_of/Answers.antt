@@ -2,13 +2,7 @@ use Rattle.std.proofs.Common.{◌≡◌, ◌^◌, ◌<◌, sym, ap, ◌∙◌, s
 use Rattle.basics.specs.Bytes.{Bytes}
 use Rattle.basics.proofs.Bytewise.{bytes_from_get_or}
 use Rattle.checks.specs.Check.{fed}
-use Rattle.checks.proofs.Feeding.{fed_more}
 use Rattle.checks.proofs.check.register_of.Goals as goal
-
-pub loop-byte-preserved : goal.loop-byte-preserved
-loop-byte-preserved g c =
-    let m = g.C.Check in
-    rw c.loop-byte.invariant at c.feed-register.ensures ∙ sym (fed_more m.after m.empty c.args.bytes.now c.loop-byte.byte-index c.loop-byte-test.true)
 
 pub returns : goal.returns
 returns g c =
@@ -19,4 +13,4 @@ returns g c =
     let all = take_all c.loop-byte.byte-index bs c.loop-byte-test.false in
     let is : m.shows c.loop-byte.register ≡ m.meaning bs =
     ap m.shows (c.loop-byte.invariant ∙ ap (fed m.after m.empty) all) ∙ laws.feeding bs ok in
-    record { is = is; fits = subst (λ n. n < 256 ^ m.width) (sym is) (laws.fits bs ok) }
+    record { is = is; fits = subst (λ n. n < 256 ^ m.WIDTH) (sym is) (laws.fits bs ok) }

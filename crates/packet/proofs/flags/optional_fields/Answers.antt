@@ -2,9 +2,6 @@ use Rattle.std.proofs.Common.{arith}
 use Rattle.packet.proofs.Bits.{ones_flags}
 use Rattle.packet.proofs.flags.optional_fields.Goals as goal
 
-pub overflow_cast-result : goal.overflow_cast-result
-overflow_cast-result c = omega (arith, ones_flags c.args.first c.args.second (omega arith) (omega arith))
-
 pub returns : goal.returns
 returns c =
     let e = ones_flags c.args.first c.args.second (omega arith) (omega arith) in

@@ -4,4 +4,4 @@ use Rattle.receiver.proofs.Ours.{ours}
 use Rattle.receiver.proofs.law.law.Goals as goal
 
 pub returns : goal.returns
-returns g c = stands (Packet g.C.Check.width g.C.Check.meaning) (ours g.C.Check.width g.C.Check.meaning)
+returns g c = stands (Packet g.C.Check.WIDTH g.C.Check.meaning) (ours g.C.Check.WIDTH g.C.Check.meaning)

@@ -1,5 +1,5 @@
 use Rattle.std.proofs.Common.{◌≡◌, ℕ, ◌/◌, ◌%◌, eqb, List, get_or, ◌∙◌, arith}
-use Rattle.value.specs.Moments.{bit}
+use Rattle.basics.specs.Bits.{bit}
 use Rattle.value.proofs.Moments.{drop_from, flag_bit, alike, byte_0, byte_1, byte_2, byte_3, byte_4, byte_5, byte_6, byte_7}
 use Rattle.value.proofs.moment.fields_of.Goals as goal
 
