@@ -1,12 +1,13 @@
 -- Lists of bytes.
 -- Assumes nothing.
 use Rattle.std.specs.Prelude.{slice_index}
-use Rattle.std.proofs.Common.{ℕ, zero, suc, ◌<◌, List, [], ◌∷◌, ◌++◌, length, get_or, take, drop, arith}
+use Rattle.std.proofs.Common.{ℕ, zero, suc, ◌<◌, List, [], ◌∷◌, ◌++◌, get_or, take, drop, Fits, w8, arith}
 use Rattle.basics.specs.Bytes.{Bytes}
 
-pub bytes_from_get_or : (xs : List ℕ) → ((i : ℕ) → i < length xs → get_or xs i 0 < 256) → Bytes xs
-bytes_from_get_or [] h = tt
-bytes_from_get_or (x ∷ xs) h = (h 0 (omega arith), bytes_from_get_or xs (λ i l. h (suc i) (omega arith)))
+-- the bytes of a slice, as its type tells them
+pub slice_bytes : (xs : List ℕ) → ((i : ℕ) → Fits w8 (get_or xs i 0)) → Bytes xs
+slice_bytes [] f = tt
+slice_bytes (x ∷ xs) f = ((let s = f 0 in omega arith), slice_bytes xs (λ i. f (suc i)))
 
 pub bytes_append : (xs ys : List ℕ) → Bytes xs → Bytes ys → Bytes (xs ++ ys)
 bytes_append [] ys a b = b

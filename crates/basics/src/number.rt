@@ -2,7 +2,7 @@
 ghost use Rattle.std.specs.Prelude.{◌≡◌, ◌/◌, ◌%◌, ◌↔◌, length, IsTrue};
 ghost use Rattle.basics.specs.Little.{little};
 
-// Whether `bytes` are the lowest bytes of `number`, as many as there are.
+// Whether `bytes` are the lowest bytes of `number`, as many as there are. Beyond the four of `to_le_bytes` they are 0.
 pub fn are_lowest_bytes(bytes: &[u8], number: u32) -> bool
     ensures { IsTrue result ↔ (bytes.now ≡ little (length bytes.now) number) }
 {

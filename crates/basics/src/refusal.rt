@@ -1,5 +1,6 @@
 // How a refusal is told: what is wrong, and at which byte.
-ghost use Rattle.std.specs.Prelude.{◌≡◌, ℕ};
+ghost use Rattle.std.specs.Prelude.{◌≡◌, ℕ, Some};
+ghost use Rattle.basics.specs.Telling.{layer_name, told};
 ghost use Rattle.basics.specs.declared.refusal.Layer.{Layer};
 
 use std::fmt;
@@ -15,6 +16,8 @@ pub enum Layer {
 }
 
 impl fmt::Display for Layer {
+    ghost output = { λ layer. Some (layer_name layer) };
+
     fn fmt<W: fmt::Write>(&self, f: &mut fmt::Formatter<W>) -> fmt::Result {
         let name = match self {
             Layer::Receiver => "receiver",
@@ -58,6 +61,8 @@ impl<F> Refusal<F> {
 
 // As reports tell it, behind the word refused.
 impl<F: Fault> fmt::Display for Refusal<F> {
+    ghost output = { λ r. Some (told (F.told_by r.fault) (F.code r.fault) r.place) };
+
     fn fmt<W: fmt::Write>(&self, f: &mut fmt::Formatter<W>) -> fmt::Result {
         let layer = self.fault.layer();
         let number = self.fault.number();

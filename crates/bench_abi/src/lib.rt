@@ -1,4 +1,5 @@
-// What the speed comparison links: one receiver over a whole slice.
+// What the speed comparison links: one receiver over a whole slice. What is exported has a name for each check, and takes
+// and gives what C can.
 #![tactic(auto)]
 
 use checks::check::Check;

@@ -1,5 +1,6 @@
 // What can be wrong with a message.
-ghost use Rattle.std.specs.Prelude.{◌≡◌};
+ghost use Rattle.std.specs.Prelude.{◌≡◌, Some};
+ghost use Rattle.basics.specs.Telling.{told};
 ghost use Rattle.body.specs.Faults.{fault_number, fault_layer, fault_of_text};
 ghost use Rattle.body.specs.declared.fault.MessageFault.TheVariants.{Value as OfValue};
 
@@ -73,6 +74,8 @@ pub struct MessageRefusal {
 
 // Told as every refusal is.
 impl fmt::Display for MessageRefusal {
+    ghost output = { λ r. Some (told (fault_layer r.fault) (fault_number r.fault) r.place) };
+
     fn fmt<W: fmt::Write>(&self, f: &mut fmt::Formatter<W>) -> fmt::Result {
         let refusal = Refusal::at(self.place, self.fault);
         write!(f, "{refusal}")

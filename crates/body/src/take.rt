@@ -73,6 +73,7 @@ impl<'a> Body<'a> {
     pub(crate) fn take_text(self) -> Result<(Text<'a>, Body<'a>), MessageRefusal>
         ensures { MatchResult result (λ p. Takes text (letters p.0.bytes.now) self.entry p.1) (λ e. Denies text self.entry e) }
     {
+        // By cases, since through `map_err` and `?` the proof of the refusal does not close.
         match take_text(self.rest) {
             Ok((text, rest)) => Ok((text, Body { rest, ..self })),
             Err(fault) => Err(self.refuse(fault.into())),

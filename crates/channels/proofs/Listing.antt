@@ -1,5 +1,7 @@
 -- Entries passed one after another.
-use Rattle.std.proofs.Common.{◌≡◌, ℕ, suc, ◌+◌, ◌-◌, ◌*◌, ◌/◌, ◌%◌, ◌^◌, ◌<◌, Bool, true, false, not, List, [], ◌∷◌, ◌++◌, sym, refl, ap, ◌∙◌, subst, append-nil, arith}
+use Rattle.std.proofs.Common.{◌≡◌, ℕ, suc, ◌+◌, ◌-◌, ◌*◌, ◌/◌, ◌%◌, ◌^◌, ◌<◌, Bool, true, false, not, List, [], ◌∷◌, ◌++◌, sym, refl, ap, ◌∙◌, subst, append-nil, arith, Some, None, Result, Ok, Err, MatchResult}
+use Rattle.std.specs.Result.{result_ok}
+use Rattle.std.proofs.lemmas.Option.{none-some, cond_some}
 use Rattle.basics.specs.Bits.{bits, bit}
 use Rattle.body.specs.Fields.{Field, Item, listing, whole, all_bytes, entry, times, unless, when, Stand}
 use Rattle.body.specs.Steps.{Takes, Took, Failed}
@@ -57,6 +59,15 @@ none_listed n gs es e h = none_held es (subst (λ (k : ℕ). Stand (times k gs) 
 
 one_first : (n : ℕ) (gs : List Field) (es : List Item) → (n ≡ 0 → ⊥) → Stand (times n gs) es [] → Stand (gs ++ times (n - 1) gs) es []
 one_first n gs es some h = let e : n ≡ suc (n - 1) = omega arith in subst (λ (k : ℕ). Stand (times k gs) es []) e h
+
+-- what is known of a result, where its value alone is left of it
+pub of_none : {A E : Type 0} (P : A → Type 0) (Q : E → Type 0) (r : Result A E) → MatchResult r P Q → None ≡ result_ok r → (e : E) × Q e
+of_none P Q (Ok x) h e = absurd (none-some x e)
+of_none P Q (Err x) h e = (x, h)
+
+pub of_some : {A E : Type 0} (P : A → Type 0) (Q : E → Type 0) (x : A) (r : Result A E) → MatchResult r P Q → Some x ≡ result_ok r → P x
+of_some P Q x (Ok y) h e = subst P (cond_some true y x (sym e)).1 h
+of_some P Q x (Err y) h e = absurd (none-some x (sym e))
 
 -- a list that counts some does not begin with an entry that is refused
 pub failed_listed : (n : ℕ) (gs : List Field) (b : Body) (r : MessageRefusal) (es : List Item) → (n ≡ 0 → ⊥) → Failed gs b r → Stand (times n gs) es [] → b.rest.now ≡ all_bytes es → ⊥

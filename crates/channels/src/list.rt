@@ -12,7 +12,8 @@ use crate::layout::{Layout, take_layout};
 use body::cursor::Body;
 use body::fault::MessageRefusal;
 
-// A list: its layout, and the bytes of its entries.
+// A list: its layout, and the bytes of its entries. The count stands beside them since the wire has it, and the bytes alone
+// don't tell how many entries they are.
 #[derive(Clone, Copy)]
 pub struct Channels<'a> {
     pub layout: Layout,
@@ -38,7 +39,7 @@ pub fn read_channels(valued: bool, body: Body<'_>) -> Result<Channels<'_>, Messa
     take_channels(valued, body)
 }
 
-// What `read_channels` does. It stands apart so that the public one needs no proof file.
+// What `read_channels` does. It stands apart so that an edit of the public call is refused in it, and not in a proof.
 fn take_channels(valued: bool, body: Body<'_>) -> Result<Channels<'_>, MessageRefusal>
     ensures { MatchResult result (λ c. ListsBody valued c body.entry.rest.now × (c.layout.valued ≡ valued)) (λ e. Refuses (listing valued ∷ []) nothing body.entry e) }
 {
@@ -59,14 +60,12 @@ impl<'a> Channels<'a> {
         self.split_first()
     }
 
-    // What `first` does. It stands apart so that the public one needs no proof file.
+    // What `first` does. It stands apart so that an edit of the public call is refused in it, and not in a proof.
     fn split_first(self) -> Option<(Entry<'a>, Channels<'a>)>
         ensures { MatchOption result (Empty self.entry) (λ p. Begins self.entry p.0 p.1) }
     {
         let count = self.layout.count.checked_sub(1)?;
-        let Ok((entry, after)) = take_entry(self.layout, Body::new(self.entries, 0)) else {
-            return None;
-        };
+        let (entry, after) = take_entry(self.layout, Body::new(self.entries, 0)).ok()?;
         let layout = Layout {
             count,
             ..self.layout

@@ -51,7 +51,8 @@ pub fn read_body(row: Row, body: Body<'_>) -> Result<Message<'_>, MessageRefusal
     }
 }
 
-// Reads a body that holds an `H`, and tells it as a message of the row, which only the contract needs.
+// Reads a body that holds an `H`, and tells it as a message of the row, which only the contract needs: a ghost in its place
+// would want a file that picks the row of each call above.
 fn read_told<'a, H: Held<'a>, F: FnOnce(H) -> Message<'a>>(
     row: Row,
     body: Body<'a>,

@@ -1,7 +1,7 @@
 -- A number gathered from the last byte to the first.
 use Rattle.std.proofs.Common.{◌≡◌, ℕ, suc, ◌+◌, ◌*◌, ◌/◌, ◌%◌, ◌^◌, ◌<◌, ◌≤◌, List, [], ◌∷◌, ◌++◌, length, get_or, sym, ap, ◌∙◌, subst, zero-lt-suc, arith, length-append, append_assoc, take, drop, take-append-drop, mod-eq_of_lt}
 use native.Mathlib.Nat.{pow-succ', pow-le-pow_right}
-use Rattle.std.proofs.lemmas.List.{nil_from_length, append-nil}
+use Rattle.std.proofs.lemmas.List.{nil_from_length}
 use Rattle.std.proofs.lemmas.Grind.{common_steps}
 use Rattle.basics.specs.Little.{little}
 use Rattle.basics.proofs.Littles.{length_little}
@@ -17,9 +17,6 @@ little_more w n b h =
     let low : (256 * n + b) % 256 ≡ b = omega arith in
     let high : (256 * n + b) / 256 ≡ n = omega arith in
     rw (low, high)
-
-pub gathered_none : (xs rest : List ℕ) → rest ≡ xs → Gathered xs rest 0
-gathered_none xs rest e = record { width = 0; below = omega arith; bytes = sym e ∙ sym (append-nil rest) }
 
 gathered_long : {xs rest : List ℕ} {n : ℕ} (h : Gathered xs rest n) → length xs ≡ length rest + h.width
 gathered_long {xs} {rest} {n} h = ap length h.bytes ∙ length-append rest (little h.width n) ∙ ap (λ (k : ℕ). length rest + k) (length_little h.width n)

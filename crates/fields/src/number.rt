@@ -134,7 +134,8 @@ impl Number for i64 {
     ghost narrow = { Prim.omega arith };
 }
 
-// The number whose bytes these are, gathered from the last to the first.
+// The number whose bytes these are, gathered from the last to the first: `from_le_bytes` wants an array, whose length a
+// generic call can't take from `WIDTH`.
 fn gathered<N: Number>(bytes: &[u8]) -> N
     requires { length bytes.now ≡ N.WIDTH }
     ensures below { N.written result < 256 ^ N.WIDTH }

@@ -1,5 +1,5 @@
 -- How the header of a message is written.
-use Rattle.std.specs.Prelude.{ℕ, ◌+◌, ◌*◌, ◌^◌, ◌<◌, List, [], ◌∷◌, Some, None, Option}
+use Rattle.std.specs.Prelude.{ℕ, ◌+◌, ◌*◌, ◌^◌, ◌<◌, List, [], ◌∷◌, Some, None, Option, codes}
 use Rattle.basics.specs.Little.{little}
 use Rattle.basics.specs.Bits.{bit}
 use Rattle.message.specs.declared.header.Direction.{Direction}
@@ -11,6 +11,12 @@ abbrev pub direction_bits : Direction → ℕ
 direction_bits direction.Request = 0
 direction_bits direction.Answer = 2
 direction_bits direction.ErrorAnswer = 3
+
+-- how a direction is told
+abbrev pub direction_name : Direction → List ℕ
+direction_name direction.Request = codes "a request"
+direction_name direction.Answer = codes "a good answer"
+direction_name direction.ErrorAnswer = codes "an answer that tells an error"
 
 -- NTID: whether there is no transaction
 abbrev pub no_transaction : Option ℕ → ℕ

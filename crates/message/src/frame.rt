@@ -1,5 +1,6 @@
 // Reading a packet and its message at once.
-ghost use Rattle.std.specs.Prelude.{◌≡◌, MatchResult};
+ghost use Rattle.std.specs.Prelude.{◌≡◌, MatchResult, Some};
+ghost use Rattle.basics.specs.Telling.{told};
 ghost use Rattle.message.specs.Frames.{ReadsFrame, RefusedFrame, refusal_number, refusal_layer, refusal_place};
 ghost use Rattle.message.specs.declared.frame.ReadRefusal.TheVariants.{Packet as OfPacket, Message as OfMessage};
 
@@ -43,6 +44,8 @@ impl From<MessageRefusal> for ReadRefusal {
 }
 
 impl fmt::Display for ReadRefusal {
+    ghost output = { λ r. Some (told (refusal_layer r) (refusal_number r) (refusal_place r)) };
+
     fn fmt<W: fmt::Write>(&self, f: &mut fmt::Formatter<W>) -> fmt::Result {
         match self {
             ReadRefusal::Packet(refusal) => write!(f, "{refusal}"),

@@ -1,4 +1,7 @@
 // The header of a message.
+ghost use Rattle.std.specs.Prelude.{Some};
+ghost use Rattle.message.specs.Headers.{direction_name};
+
 use std::fmt;
 
 // Whether a message asks or answers, and whether the answer tells an error.
@@ -10,6 +13,8 @@ pub enum Direction {
 }
 
 impl fmt::Display for Direction {
+    ghost output = { λ d. Some (direction_name d) };
+
     fn fmt<W: fmt::Write>(&self, f: &mut fmt::Formatter<W>) -> fmt::Result {
         let name = match self {
             Direction::Request => "a request",

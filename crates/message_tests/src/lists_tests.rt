@@ -24,21 +24,13 @@ fn three(
     name: Option<usize>,
     sub_device: Option<u16>,
 ) -> Result<(), Fail> {
-    let Ok(list) = read_channels(valued, Body::new(bytes, 0)) else {
-        return Err(Fail::new("refused"));
-    };
-    let Some((first, list)) = list.first() else {
-        return Err(Fail::new("no first"));
-    };
+    let list = read_channels(valued, Body::new(bytes, 0))?;
+    let (first, list) = list.first().ok_or("no first")?;
     assert_eq!(rt; told(first), (1, name, sub_device));
     assert_eq!(rt; first.value.is_some(), valued);
-    let Some((second, list)) = list.first() else {
-        return Err(Fail::new("no second"));
-    };
+    let (second, list) = list.first().ok_or("no second")?;
     assert_eq!(rt; told(second), (2, name, sub_device));
-    let Some((third, list)) = list.first() else {
-        return Err(Fail::new("no third"));
-    };
+    let (third, list) = list.first().ok_or("no third")?;
     assert_eq!(rt; told(third), (3, name, sub_device));
     assert!(rt; list.first().is_none());
     Ok(())
@@ -98,10 +90,9 @@ fn with_values(rt: HostRuntime) -> Result<(), Fail> {
 
 // Whether a list is read, or the number and the place of the refusal.
 fn outcome(valued: bool, bytes: &[u8]) -> Result<(), (u8, usize)> {
-    match read_channels(valued, Body::new(bytes, 0)) {
-        Ok(_) => Ok(()),
-        Err(refusal) => Err((refusal.fault.number(), refusal.place)),
-    }
+    read_channels(valued, Body::new(bytes, 0))
+        .map(|_| ())
+        .map_err(|refusal| (refusal.fault.number(), refusal.place))
 }
 
 #[test]
@@ -123,13 +114,9 @@ fn linked_variables(rt: HostRuntime) -> Result<(), Fail> {
     let variables = Variables {
         bytes: &[2, 1, 4, 3],
     };
-    let Some((first, others)) = variables.first() else {
-        return Err(Fail::new("no first"));
-    };
+    let (first, others) = variables.first().ok_or("no first")?;
     assert_eq!(rt; first, 258);
-    let Some((second, others)) = others.first() else {
-        return Err(Fail::new("no second"));
-    };
+    let (second, others) = others.first().ok_or("no second")?;
     assert_eq!(rt; second, 772);
     assert!(rt; others.first().is_none());
     Ok(())

@@ -24,10 +24,9 @@ const PLAIN: Header = Header {
 
 // Whether a message is read, or the number and the place of the refusal.
 fn outcome(reading: Result<Received<'_>, MessageRefusal>) -> Result<(), (u8, usize)> {
-    match reading {
-        Ok(_) => Ok(()),
-        Err(refusal) => Err((refusal.fault.number(), refusal.place)),
-    }
+    reading
+        .map(|_| ())
+        .map_err(|refusal| (refusal.fault.number(), refusal.place))
 }
 
 // In a broadcast, whose header has four bytes.
@@ -166,9 +165,7 @@ fn a_recorded_packet(rt: HostRuntime) -> Result<(), Fail> {
     let bytes = [
         0x75, 0x08, 0x08, 0x05, 0x11, 0x11, 0x07, 0x00, 0x02, 0x01, 0x3E, 0x8D,
     ];
-    let Ok(frame) = read::<Crc16>(&bytes) else {
-        return Err(Fail::new("refused"));
-    };
+    let frame = read::<Crc16>(&bytes)?;
     assert_eq!(rt; frame.header.source, 5);
     assert!(rt; frame.header.is_broadcast());
     assert_eq!(rt; frame.received.header.direction, Direction::Request);

@@ -3,11 +3,8 @@
 
 mod messages;
 
+use show::RECORDED;
 use std::io;
-
-const RECORDED: [u8; 12] = [
-    0x75, 0x08, 0x08, 0x05, 0x11, 0x11, 0x07, 0x00, 0x02, 0x01, 0x3E, 0x8D,
-];
 
 fn main(rt: HostRuntime) -> io::Result<()> {
     println!(rt; "What the packet's message says")?;

@@ -6,7 +6,8 @@ use Rattle.std.proofs.Math.Nat.{ℕ_set}
 use Rattle.basics.specs.Little.{little}
 use Rattle.packet.specs.Raw as raw
 use Rattle.packet.specs.Header.{first_byte}
-use Rattle.packet.specs.Faults.{Opens}
+use Rattle.packet.specs.declared.fault.PacketFault.{PacketFault}
+use Rattle.packet.specs.Faults.{Opens, Refused}
 
 -- those of the two flag bytes and the route that are there are lawful
 pub record Begun (p : List ℕ) : Type 0 where
@@ -30,6 +31,10 @@ pub record Measured (w : ℕ) (p : List ℕ) (header end : ℕ) : Type 0 where
   pub size_least : w + 2 ≤ raw.size p
   pub header_is : header ≡ raw.header_length p
   pub end_is : end ≡ raw.end p
+
+-- the bytes are refused for what stands in their header, at the size or before it
+abbrev pub RefusedInHeader : ℕ → (List ℕ → ℕ) → List ℕ → PacketFault → ℕ → Type 0
+RefusedInHeader w check p f k = Refused w check p f k × (k ≤ raw.size_place p)
 
 -- such facts tell no more than that they hold
 Opens-prop : (b : ℕ) → IsProp (Opens b)

@@ -1,8 +1,7 @@
 // How far a packet reaches, told from its header before its data are looked at.
 ghost use Rattle.std.specs.Prelude.{◌≡◌, ◌<◌, ◌≤◌, ◌↔◌, length, IsTrue, MatchOption, MatchResult};
-ghost use Rattle.packet.specs.Raw.{size_place, check_place, message, check_bytes};
-ghost use Rattle.packet.specs.Faults.{Refused};
-ghost use Rattle.packet.specs.Measured.{Begun, Measured, Measured-prop, Agrees};
+ghost use Rattle.packet.specs.Raw.{check_place, message, check_bytes};
+ghost use Rattle.packet.specs.Measured.{Begun, RefusedInHeader, Measured, Measured-prop, Agrees};
 
 use crate::fault::PacketFault;
 use crate::flags::{byte_at, cipher, is_set, opens, version};
@@ -10,48 +9,44 @@ use crate::header::header_length;
 use basics::number::are_lowest_bytes;
 use basics::refusal::Refusal;
 use checks::check::{Check, check_of};
-use std::alloc::AllocError;
 use std::marker::PhantomData;
 
-// Bytes that begin a packet as far as its size: the place after the header, and the place after the packet's last byte.
-#[derive_where(PartialEq, Eq, Debug)]
-pub struct Extent<'a, C: Check> {
-    pub bytes: &'a [u8],
+// The place after the header, and the place after the packet's last byte.
+#[derive(Clone, Copy, PartialEq, Eq, Debug)]
+pub struct Extent {
     pub header: usize,
     pub end: usize,
+}
+
+// Bytes that begin a packet as far as its size, with its extent.
+#[derive(Drop)]
+pub struct Front<'a, C: Check> {
+    pub bytes: &'a [u8],
+    pub extent: Extent,
     check: PhantomData<C>,
-    ghost measured: { Measured C.WIDTH bytes.now header end } by { Measured-prop C.WIDTH bytes.now header end },
+    pub ghost measured: { Measured C.WIDTH bytes.now extent.header extent.end } by { Measured-prop C.WIDTH bytes.now extent.header extent.end },
 }
 
-// By hand, since a derive can't tell what the ghost field holds.
-impl<C: Check> Clone for Extent<'_, C> {
-    fn clone(&self) -> Result<Self, AllocError> {
-        Ok(*self)
-    }
-}
-
-impl<C: Check> Copy for Extent<'_, C> {}
-
-impl<'a, C: Check> Extent<'a, C> {
+impl<'a, C: Check> Front<'a, C> {
     // The place after the message, where its check stands.
     pub fn check_place(&self) -> usize
         ensures { result ≡ check_place C.WIDTH self.now.bytes.now }
     {
-        self.end - C::WIDTH
+        self.extent.end - C::WIDTH
     }
 
     // The message, where it is all there.
     pub fn message(&self) -> Option<&'a [u8]>
         ensures { MatchOption result (length self.now.bytes.now < check_place C.WIDTH self.now.bytes.now) (λ m. m.now ≡ message C.WIDTH self.now.bytes.now) }
     {
-        self.bytes.get(self.header..self.check_place())
+        self.bytes.get(self.extent.header..self.check_place())
     }
 
     // The bytes of the check that are there.
     pub fn found(&self) -> &'a [u8]
         ensures { result.now ≡ check_bytes C.WIDTH self.now.bytes.now }
     {
-        let last = self.end.min(self.bytes.len());
+        let last = self.extent.end.min(self.bytes.len());
         self.bytes.get(self.check_place()..last).unwrap_or(&[])
     }
 
@@ -64,33 +59,39 @@ impl<'a, C: Check> Extent<'a, C> {
         if given <= place {
             return true;
         }
-        let number = check_of::<C>(&self.bytes[self.header..place]);
-        are_lowest_bytes(&self.bytes[place..given.min(self.end)], number)
+        let number = check_of::<C>(&self.bytes[self.extent.header..place]);
+        are_lowest_bytes(&self.bytes[place..given.min(self.extent.end)], number)
     }
 }
 
 // Reads the header as far as its size. What it refuses stands there, or the size is cut off; whether the data are there
 // and agree with their check is not looked at.
-pub fn measure<C: Check>(bytes: &[u8]) -> Result<Extent<'_, C>, Refusal<PacketFault>>
-    ensures { MatchResult result (λ x. (x.bytes.now ≡ bytes.now) × Measured C.WIDTH bytes.now x.header x.end) (λ e. Refused C.WIDTH C.meaning bytes.now e.fault e.place × (e.place ≤ size_place bytes.now)) }
+pub fn measure<C: Check>(bytes: &[u8]) -> Result<Extent, Refusal<PacketFault>>
+    ensures { MatchResult result (λ x. Measured C.WIDTH bytes.now x.header x.end) (λ e. RefusedInHeader C.WIDTH C.meaning bytes.now e.fault e.place) }
 {
-    let (header, end) = places_of::<C>(bytes)?;
-    Ok(Extent {
+    Ok(front_of::<C>(bytes)?.extent)
+}
+
+// Reads the header likewise, and keeps the bytes beside their extent.
+pub fn front_of<C: Check>(bytes: &[u8]) -> Result<Front<'_, C>, Refusal<PacketFault>>
+    ensures { MatchResult result (λ f. f.bytes.now ≡ bytes.now) (λ e. RefusedInHeader C.WIDTH C.meaning bytes.now e.fault e.place) }
+{
+    Ok(Front {
         bytes,
-        header,
-        end,
+        extent: extent_of::<C>(bytes)?,
         check: PhantomData,
     })
 }
 
-// The place after the header and the place after the packet.
-fn places_of<C: Check>(bytes: &[u8]) -> Result<(usize, usize), Refusal<PacketFault>>
-    ensures { MatchResult result (λ p. Measured C.WIDTH bytes.now p.0 p.1) (λ e. Refused C.WIDTH C.meaning bytes.now e.fault e.place × (e.place ≤ size_place bytes.now)) }
+// The extent that the header tells.
+fn extent_of<C: Check>(bytes: &[u8]) -> Result<Extent, Refusal<PacketFault>>
+    ensures { MatchResult result (λ x. Measured C.WIDTH bytes.now x.header x.end) (λ e. RefusedInHeader C.WIDTH C.meaning bytes.now e.fault e.place) }
 {
     judge_start::<C>(bytes)?;
     let first = byte_at(bytes, 0);
     let second = byte_at(bytes, 1);
     let size_place = if is_set(second, 7) { 3 } else { 2 };
+    // no `ok_or`, which would make the refusal for every byte: 5 instructions more for each byte of noise
     let Some(size) = bytes.get(size_place) else {
         return Err(Refusal::at(bytes.len(), PacketFault::CutShort));
     };
@@ -99,12 +100,15 @@ fn places_of<C: Check>(bytes: &[u8]) -> Result<(usize, usize), Refusal<PacketFau
         return Err(Refusal::at(size_place, PacketFault::Size));
     }
     let header = header_length(first, second);
-    Ok((header, header + size))
+    Ok(Extent {
+        header,
+        end: header + size,
+    })
 }
 
 // Judges those of the two flag bytes and the route that are there.
 fn judge_start<C: Check>(bytes: &[u8]) -> Result<(), Refusal<PacketFault>>
-    ensures { MatchResult result (λ _. Begun bytes.now) (λ e. Refused C.WIDTH C.meaning bytes.now e.fault e.place × (e.place ≤ size_place bytes.now)) }
+    ensures { MatchResult result (λ _. Begun bytes.now) (λ e. RefusedInHeader C.WIDTH C.meaning bytes.now e.fault e.place) }
 {
     let given = bytes.len();
     let second = byte_at(bytes, 1);

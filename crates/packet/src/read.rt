@@ -12,7 +12,7 @@ ghost use Rattle.packet.specs.Measured.{LawfulStart, Complete};
 use crate::fault::PacketFault;
 use crate::flags::{cipher, is_set, version};
 use crate::header::Header;
-use crate::measure::{Extent, measure};
+use crate::measure::{Front, front_of};
 use basics::refusal::Refusal;
 use checks::check::Check;
 
@@ -63,38 +63,39 @@ fn read_header(bytes: &[u8]) -> Header
 }
 
 // Whether the data are all there, agree with their check, and end the bytes given.
-fn judge<C: Check>(extent: Extent<'_, C>) -> Result<(), Refusal<PacketFault>>
-    ensures { MatchResult result (λ _. Complete C.WIDTH C.meaning extent.entry.bytes.now) (λ e. Refused C.WIDTH C.meaning extent.entry.bytes.now e.fault e.place) }
+fn judge<C: Check>(front: &Front<'_, C>) -> Result<(), Refusal<PacketFault>>
+    ensures { MatchResult result (λ _. Complete C.WIDTH C.meaning front.now.bytes.now) (λ e. Refused C.WIDTH C.meaning front.now.bytes.now e.fault e.place) }
 {
-    let given = extent.bytes.len();
-    if given < extent.end {
+    let given = front.bytes.len();
+    let end = front.extent.end;
+    if given < end {
         return Err(Refusal::at(given, PacketFault::CutShort));
     }
-    if !extent.agrees() {
-        return Err(Refusal::at(extent.check_place(), PacketFault::Check));
+    if !front.agrees() {
+        return Err(Refusal::at(front.check_place(), PacketFault::Check));
     }
-    if given > extent.end {
-        return Err(Refusal::at(extent.end, PacketFault::LeftOver));
+    if given > end {
+        return Err(Refusal::at(end, PacketFault::LeftOver));
     }
     Ok(())
 }
 
 // The parts of bytes that were judged.
-fn take_apart<'a, C: Check>(extent: Extent<'a, C>) -> Packet<'a>
-    requires { Complete C.WIDTH C.meaning extent.bytes.now }
-    ensures { Reads C.WIDTH C.meaning extent.entry.bytes.now result.header result.message.now }
+fn take_apart<'a, C: Check>(front: &Front<'a, C>) -> Packet<'a>
+    requires { Complete C.WIDTH C.meaning front.now.bytes.now }
+    ensures { Reads C.WIDTH C.meaning front.now.bytes.now result.header result.message.now }
 {
     Packet {
-        header: read_header(extent.bytes),
-        message: &extent.bytes[extent.header..extent.check_place()],
+        header: read_header(front.bytes),
+        message: &front.bytes[front.extent.header..front.check_place()],
     }
 }
 
 // Reads a packet: its header and its message, or what is wrong with the bytes and where.
-pub fn read_packet<C: Check>(bytes: &[u8]) -> Result<Packet<'_>, Refusal<PacketFault>>
+pub fn read_packet<'a, C: Check>(bytes: &'a [u8]) -> Result<Packet<'a>, Refusal<PacketFault>>
     ensures { MatchResult result (λ k. Reads C.WIDTH C.meaning bytes.now k.header k.message.now) (λ e. Refused C.WIDTH C.meaning bytes.now e.fault e.place) }
 {
-    let extent = measure::<C>(bytes)?;
-    judge(extent)?;
-    Ok(take_apart(extent))
+    let front = front_of::<C>(bytes)?;
+    judge(&front)?;
+    Ok(take_apart(&front))
 }

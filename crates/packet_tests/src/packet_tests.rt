@@ -10,10 +10,9 @@ use std::test::Fail;
 
 // The message's length, or the number and the place of a refusal.
 fn told<C: Check>(bytes: &[u8]) -> Result<usize, (u8, usize)> {
-    match read_packet::<C>(bytes) {
-        Ok(packet) => Ok(packet.message.len()),
-        Err(refusal) => Err((refusal.fault.number(), refusal.place)),
-    }
+    read_packet::<C>(bytes)
+        .map(|packet| packet.message.len())
+        .map_err(|refusal| (refusal.fault.number(), refusal.place))
 }
 
 const PLAIN: Header = Header {
@@ -32,9 +31,7 @@ fn a_recorded_packet(rt: HostRuntime) -> Result<(), Fail> {
     let bytes = [
         0x75, 0x08, 0x08, 0x05, 0x11, 0x11, 0x07, 0x00, 0x02, 0x01, 0x3E, 0x8D,
     ];
-    let Ok(packet) = read_packet::<Crc16>(&bytes) else {
-        return Err(Fail::new("refused"));
-    };
+    let packet = read_packet::<Crc16>(&bytes)?;
     assert_eq!(rt; packet.header, PLAIN);
     assert_eq!(rt; packet.message.len(), 6);
     assert!(rt; packet.header.is_broadcast());
@@ -56,9 +53,7 @@ fn every_optional_field(rt: HostRuntime) -> Result<(), Fail> {
         target_segment: Some(255),
         target: Some(7),
     };
-    let Ok(packet) = read_packet::<Xor>(&bytes) else {
-        return Err(Fail::new("refused"));
-    };
+    let packet = read_packet::<Xor>(&bytes)?;
     assert_eq!(rt; packet.header, header);
     assert!(rt; !packet.header.is_broadcast());
     Ok(())
@@ -67,10 +62,7 @@ fn every_optional_field(rt: HostRuntime) -> Result<(), Fail> {
 // A field that is 0 is there; one whose flag is not set is not.
 #[test]
 fn fields_that_are_zero(rt: HostRuntime) -> Result<(), Fail> {
-    let broadcast = read_packet::<Xor>(&[0x75, 0x28, 0x03, 0x05, 0x00, 0xAA, 0x55, 0xFF]);
-    let Ok(broadcast) = broadcast else {
-        return Err(Fail::new("refused"));
-    };
+    let broadcast = read_packet::<Xor>(&[0x75, 0x28, 0x03, 0x05, 0x00, 0xAA, 0x55, 0xFF])?;
     assert_eq!(rt;
         broadcast.header,
         Header {
@@ -78,10 +70,7 @@ fn fields_that_are_zero(rt: HostRuntime) -> Result<(), Fail> {
             ..PLAIN
         }
     );
-    let addressed = read_packet::<Xor>(&[0x7D, 0x08, 0x03, 0x05, 0x00, 0xAA, 0x55, 0xFF]);
-    let Ok(addressed) = addressed else {
-        return Err(Fail::new("refused"));
-    };
+    let addressed = read_packet::<Xor>(&[0x7D, 0x08, 0x03, 0x05, 0x00, 0xAA, 0x55, 0xFF])?;
     assert_eq!(rt;
         addressed.header,
         Header {
@@ -224,9 +213,7 @@ fn lengths(rt: HostRuntime) -> Result<(), Fail> {
     assert_eq!(rt; header_length(0x7D, 0x08), 5);
     assert_eq!(rt; header_length(0x75, 0xE8), 7);
     assert_eq!(rt; header_length(0xFD, 0xFF), 8);
-    let Ok(extent) = measure::<Xor>(&[0x7D, 0xE8, 0x00, 0xFF]) else {
-        return Err(Fail::new("refused"));
-    };
+    let extent = measure::<Xor>(&[0x7D, 0xE8, 0x00, 0xFF])?;
     assert_eq!(rt; (extent.header, extent.end), (8, 263));
     Ok(())
 }

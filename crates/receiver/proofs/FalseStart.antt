@@ -1,9 +1,7 @@
 -- A packet behind a false start.
 -- Assumes nothing.
-use Rattle.std.proofs.Common.{◌≡◌, ℕ, false, ltb, List, [], ◌∷◌, None, sym, refl, subst, append-nil, arith, ltb→lt}
+use Rattle.std.proofs.Common.{◌≡◌, ℕ, false, List, [], ◌∷◌, None, sym, refl, subst, append-nil, arith, lit<}
 use Rattle.basics.specs.Bytes.{Bytes}
-use Rattle.basics.proofs.Bytewise.{bytes_from_get_or}
-use Rattle.basics.proofs.Tables.{at}
 use Rattle.checks.specs.Crc16.{crc16_of}
 use Rattle.packet.specs.declared.fault.PacketFault.TheVariants.{FirstByte}
 use Rattle.packet.specs.Packet.{Packet}
@@ -56,10 +54,10 @@ measured = record {
 }
 
 are_bytes : Bytes behind_false_start
-are_bytes = bytes_from_get_or behind_false_start (λ i l. ltb→lt _ _ (at (λ k b. ltb b 256) behind_false_start tt i l))
+are_bytes = (lit< tt, (lit< tt, (lit< tt, (lit< tt, (lit< tt, (lit< tt, (lit< tt, (lit< tt, (lit< tt, (lit< tt, (lit< tt, (lit< tt, (lit< tt, (lit< tt, (lit< tt, (lit< tt, tt))))))))))))))))
 
 is_possible : Possible (Packet 2 crc16_of) behind_false_start
-is_possible = (unfinished 2 crc16_of behind_false_start are_bytes 4 259 measured (omega arith) (agreeing_none 2 crc16_of behind_false_start (omega arith))).0
+is_possible = (unfinished 2 crc16_of refl are_bytes measured (omega arith) (agreeing_none 2 crc16_of behind_false_start (omega arith))).0
 
 pub false_start : FalseStart
 false_start buffer l = (

@@ -7,7 +7,7 @@ use Rattle.std.proofs.lemmas.Bool.{cases_lt}
 use Rattle.basics.specs.Bytes.{Bytes}
 use Rattle.packet.specs.declared.fault.PacketFault.{PacketFault}
 use Rattle.packet.specs.declared.fault.PacketFault.TheVariants.{CutShort, FirstByte, Version, Cipher, Route, Size, Check, LeftOver}
-use Rattle.packet.specs.Raw.{byte, flag, version, cipher, header_length, size_place, size, end}
+use Rattle.packet.specs.Raw.{byte, flag, version, cipher, header_length, size_place, size, end, check_place}
 use Rattle.packet.specs.Packet.{Packet}
 use Rattle.packet.specs.Faults.{Opens, Refused}
 use Rattle.packet.specs.Measured.{Begun, LawfulStart, Measured, Agrees}
@@ -147,23 +147,38 @@ module _ (w : ℕ) (check : List ℕ → ℕ) where
       omega (arith, ap length x.3, length-append x.0 x.1))
       (from_start h t b (begun h k b r) s)
 
-  module _ (h : List ℕ) (b : Bytes h) (header stop : ℕ) (m : Measured w h header stop) where
-    pub whole : stop ≤ length h → Agrees w check h → Judged (Packet w check) h (Found stop)
+  -- bytes x whose header is measured, which are the held bytes h
+  module _ {x h : List ℕ} (e : x ≡ h) (b : Bytes h) {header stop : ℕ} (n : Measured w x header stop) where
+    m : Measured w h header stop
+    m = subst (λ y. Measured w y header stop) e n
+
+    held_agrees : Agrees w check x → Agrees w check h
+    held_agrees a = subst (λ y. Agrees w check y) e a
+
+    pub whole : stop ≤ length h → Agrees w check x → Judged (Packet w check) h (Found stop)
     whole l a =
-        let e = m.end_is in
-        let k = whole_from w check h b header stop m (omega arith) a in
-        let n = length-take-le (end h) h (omega arith) in
-        (take (end h) h, drop (end h) h, k, sym (take-append-drop (end h) h), n ∙ sym e, omega (arith, (ours w check).short (take (end h) h) k))
+        let s = m.end_is in
+        let k = whole_from w check h b header stop m (omega arith) (held_agrees a) in
+        let t = length-take-le (end h) h (omega arith) in
+        (take (end h) h, drop (end h) h, k, sym (take-append-drop (end h) h), t ∙ sym s, omega (arith, (ours w check).short (take (end h) h) k))
 
-    pub unfinished : length h < stop → Agrees w check h → Judged (Packet w check) h Maybe
+    pub unfinished : length h < stop → Agrees w check x → Judged (Packet w check) h Maybe
     unfinished l a =
-        let e = m.end_is in
+        let s = m.end_is in
         possible h
-        (λ x.
-        let q = alike_fronts x.0 x.1 h [] (append-nil h ∙ x.3) in
-        let y = ends_there w check x.0 h x.2 q m.size_there in
-        omega (arith, ap length x.3, length-append x.0 x.1))
-        (reach w check h b header stop m (omega arith) a)
+        (λ p.
+        let q = alike_fronts p.0 p.1 h [] (append-nil h ∙ p.3) in
+        let y = ends_there w check p.0 h p.2 q m.size_there in
+        omega (arith, ap length p.3, length-append p.0 p.1))
+        (reach w check h b header stop m (omega arith) (held_agrees a))
 
-    pub disagreeing : ¬ Agrees w check h → Judged (Packet w check) h Impossible
-    disagreeing n = let t = m.size_there in impossible h (omega arith) (λ p k s. n (agreeing_of w check p h k s m.size_there m.size_least))
+    -- none of its check has come
+    pub unchecked : 1 ≤ w → length h ≤ check_place w x → Judged (Packet w check) h Maybe
+    unchecked o l =
+        let p : check_place w x ≡ check_place w h = ap (check_place w) e in
+        unfinished (omega (arith, m.size_least, m.end_is)) (agreeing_none w check x (omega (arith, ap length e)))
+
+    pub disagreeing : ¬ Agrees w check x → Judged (Packet w check) h Impossible
+    disagreeing d =
+        let t = m.size_there in
+        impossible h (omega arith) (λ p k s. d (subst (λ y. Agrees w check y) (sym e) (agreeing_of w check p h k s m.size_there m.size_least)))

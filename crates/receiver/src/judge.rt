@@ -4,7 +4,7 @@ ghost use Rattle.receiver.specs.Judging.{Judged};
 
 use checks::check::Check;
 use packet::fault::PacketFault;
-use packet::measure::measure;
+use packet::measure::front_of;
 
 // The three cases that the rules of next tell apart.
 #[derive(Clone, Copy)]
@@ -20,11 +20,11 @@ pub enum Verdict {
 pub fn judge<C: Check>(held: &[u8]) -> Verdict
     ensures { Judged (Packet C.WIDTH C.meaning) held.now result }
 {
-    match measure::<C>(held) {
-        Ok(extent) if held.len() <= extent.check_place() => Verdict::Possible,
-        Ok(extent) if !extent.agrees() => Verdict::Impossible,
-        Ok(extent) if held.len() < extent.end => Verdict::Possible,
-        Ok(extent) => Verdict::Whole(extent.end),
+    match front_of::<C>(held) {
+        Ok(front) if held.len() <= front.check_place() => Verdict::Possible,
+        Ok(front) if !front.agrees() => Verdict::Impossible,
+        Ok(front) if held.len() < front.extent.end => Verdict::Possible,
+        Ok(front) => Verdict::Whole(front.extent.end),
         Err(refusal) => match refusal.fault {
             PacketFault::CutShort => Verdict::Possible,
             _ => Verdict::Impossible,

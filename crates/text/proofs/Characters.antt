@@ -4,7 +4,7 @@ use Rattle.std.proofs.lemmas.List.{drop_at}
 use Rattle.std.proofs.lemmas.Bool.Decides.{nat_tests}
 use mathlib.Core.List.{head-eq_of_cons-eq, tail-eq_of_cons-eq}
 use Rattle.text.specs.Characters.{In, Tail, Second, One, Character, one, two, three, four}
-use Rattle.text.specs.Texts.{IsText, empty, next, ByteFirst, CharacterFirst, Absent}
+use Rattle.text.specs.Texts.{IsText, empty, next, ByteFirst, CharacterFirst, Absent, IfFirst}
 
 -- what follows the first byte a of a character of two, three and four bytes
 abbrev pub TwoAfter : ℕ → List ℕ → List ℕ → Type 0
@@ -28,6 +28,11 @@ absent_then R xs none rest (zs, h, t) = none zs h
 told_then : (R : List ℕ → List ℕ → Type 0) (xs zs : List ℕ) → R zs xs → ((us : List ℕ) → R us xs → us ≡ zs) → (o : Option (Bor (List ℕ))) → MatchOption o (Absent (ByteFirst Tail) zs) (λ rest. ByteFirst Tail rest.now zs) → MatchOption o (Absent (Then R) xs) (λ rest. Then R rest.now xs)
 told_then R xs zs h once None none = λ rest (us, g, t). none rest (subst (ByteFirst Tail rest) (once us g) t)
 told_then R xs zs h once (Some rest) t = (zs, h, t)
+
+-- where a test of a byte tells whether P holds of it, the bytes after one that it lets through follow a byte of P
+pub tested : (P : ℕ → Type 0) {Without With : ℕ → Type 0} (xs : List ℕ) (o : Option (Bor (List ℕ))) → MatchOption o (IfFirst Without xs) (λ rest. ByteFirst With rest.now xs) → ((b : ℕ) → Without b → P b → ⊥) → ((b : ℕ) → With b → P b) → MatchOption o (Absent (ByteFirst P) xs) (λ rest. ByteFirst P rest.now xs)
+tested P xs None h without with = λ rest (b, p, e). without b (h b rest e) p
+tested P xs (Some rest) (b, h, e) without with = (b, with b h, e)
 
 two_once : (a : ℕ) (r s xs : List ℕ) → TwoAfter a r xs → TwoAfter a s xs → s ≡ r
 two_once a r s xs (b, h, e) (c, g, f) = tail-eq_of_cons-eq (sym f ∙ e)
@@ -75,13 +80,7 @@ module _ (a : ℕ) (ys xs : List ℕ) (e : xs ≡ a ∷ ys) where
   four_told l (Some rest) (zs, (us, (b, s, f), (c, t, g)), (d, u, h)) =
       record { first = a ∷ b ∷ c ∷ d ∷ []; character = four (l, s, t, u); bytes = e ∙ ap (λ (t : List ℕ). a ∷ t) (f ∙ ap (λ (t : List ℕ). b ∷ t) (g ∙ ap (λ (t : List ℕ). c ∷ t) h)) }
 
-  -- where no second byte follows a, or no third
-  pub three_without : In 0xE0 0xEF a → Absent (TwoAfter a) ys → Absent CharacterFirst xs
-  three_without l none = three_told l None (absent_then (TwoAfter a) ys none)
-
-  pub four_without : In 0xF0 0xF4 a → Absent (TwoAfter a) ys → Absent CharacterFirst xs
-  four_without l none = four_told l None (absent_then (ThreeAfter a) ys (absent_then (TwoAfter a) ys none))
-
+  -- where no third byte follows a
   pub four_short : In 0xF0 0xF4 a → (zs : List ℕ) → TwoAfter a zs ys → Absent (ByteFirst Tail) zs → Absent CharacterFirst xs
   four_short l zs h none = four_told l None (absent_then (ThreeAfter a) ys (told_then (TwoAfter a) ys zs h (λ us. two_once a zs us ys h) None none))
 

@@ -11,6 +11,10 @@ pub data IsText : List ℕ → Type 0 where
 abbrev pub ByteFirst : (ℕ → Type 0) → List ℕ → List ℕ → Type 0
 ByteFirst P rest xs = (b : ℕ) × P b × (xs ≡ b ∷ rest)
 
+-- if xs begin with a byte, P holds of it
+abbrev pub IfFirst : (ℕ → Type 0) → List ℕ → Type 0
+IfFirst P xs = (b : ℕ) (rest : List ℕ) → xs ≡ b ∷ rest → P b
+
 -- xs begin with a character, and rest follows
 pub record CharacterFirst (rest xs : List ℕ) : Type 0 where
   pub first : List ℕ

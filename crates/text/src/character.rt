@@ -1,7 +1,7 @@
 // The characters of UTF-8, by their first bytes.
-ghost use Rattle.std.specs.Prelude.{IsTrue, ◌↔◌, MatchOption};
+ghost use Rattle.std.specs.Prelude.{IsTrue, ◌↔◌, MatchOption, true, false};
 ghost use Rattle.text.specs.Characters.{Tail, Second};
-ghost use Rattle.text.specs.Texts.{Absent, ByteFirst, CharacterFirst};
+ghost use Rattle.text.specs.Texts.{Absent, IfFirst, ByteFirst, CharacterFirst};
 
 // Whether `byte` goes on with a character.
 fn is_tail(byte: u8) -> bool
@@ -23,22 +23,13 @@ fn may_follow(lead: u8, second: u8) -> bool
     }
 }
 
-// The bytes after the second byte of a character that begins with `lead`, or nothing where none stands there.
-fn after_second(lead: u8, bytes: &[u8]) -> Option<&[u8]>
-    ensures { MatchOption result (Absent (ByteFirst (Second lead)) bytes.now) (λ rest. ByteFirst (Second lead) rest.now bytes.now) }
+// The bytes after the first of `bytes`, or nothing where there is none or `may` refuses it.
+fn after_byte<F: Fn(u8) -> bool>(may: F, bytes: &[u8]) -> Option<&[u8]>
+    requires { F.IsAlwaysCallable may }
+    ensures { MatchOption result (IfFirst (λ b. F.post may b false) bytes.now) (λ rest. ByteFirst (λ b. F.post may b true) rest.now bytes.now) }
 {
     match bytes {
-        [second, rest @ ..] if may_follow(lead, *second) => Some(rest),
-        _ => None,
-    }
-}
-
-// The bytes after a byte that goes on with a character, likewise.
-fn after_tail(bytes: &[u8]) -> Option<&[u8]>
-    ensures { MatchOption result (Absent (ByteFirst Tail) bytes.now) (λ rest. ByteFirst Tail rest.now bytes.now) }
-{
-    match bytes {
-        [byte, rest @ ..] if is_tail(*byte) => Some(rest),
+        [byte, rest @ ..] if may(*byte) => Some(rest),
         _ => None,
     }
 }
@@ -48,11 +39,12 @@ pub(crate) fn after_character(bytes: &[u8]) -> Option<&[u8]>
     ensures { MatchOption result (Absent CharacterFirst bytes.now) (λ rest. CharacterFirst rest.now bytes.now) }
 {
     let (lead, rest) = bytes.split_first()?;
+    let follows = |second| may_follow(*lead, second);
     match *lead {
         0x00..=0x7F => Some(rest),
-        0xC2..=0xDF => after_second(*lead, rest),
-        0xE0..=0xEF => after_tail(after_second(*lead, rest)?),
-        0xF0..=0xF4 => after_tail(after_tail(after_second(*lead, rest)?)?),
+        0xC2..=0xDF => after_byte(follows, rest),
+        0xE0..=0xEF => after_byte(is_tail, after_byte(follows, rest)?),
+        0xF0..=0xF4 => after_byte(is_tail, after_byte(is_tail, after_byte(follows, rest)?)?),
         _ => None,
     }
 }

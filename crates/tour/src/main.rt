@@ -8,13 +8,10 @@ mod values;
 
 use checks::check::Check;
 use checks::crc16::Crc16;
-use packet::measure::measure;
+use packet::measure::front_of;
 use packet::read::read_packet;
+use show::RECORDED;
 use std::io;
-
-const RECORDED: [u8; 12] = [
-    0x75, 0x08, 0x08, 0x05, 0x11, 0x11, 0x07, 0x00, 0x02, 0x01, 0x3E, 0x8D,
-];
 
 const DAMAGED: [u8; 12] = [
     0x75, 0x08, 0x08, 0x05, 0x11, 0x11, 0x07, 0x00, 0x02, 0x01, 0x3E, 0x8C,
@@ -27,9 +24,9 @@ fn follow(rt: &impl Print, bytes: &[u8]) -> io::Result<()> {
     if let Ok(packet) = reading {
         report::header(rt, packet.header)?;
     }
-    if let Ok(extent) = measure::<Crc16>(bytes) {
-        report::extent(rt, extent)?;
-        report::data(rt, extent)?;
+    if let Ok(front) = front_of::<Crc16>(bytes) {
+        report::extent(rt, front.extent)?;
+        report::data(rt, &front)?;
     }
     match reading {
         Ok(_) => report::accepted(rt),

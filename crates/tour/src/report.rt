@@ -3,7 +3,7 @@ use basics::refusal::Refusal;
 use checks::crc16::{Crc16, crc16_of};
 use packet::fault::PacketFault;
 use packet::header::Header;
-use packet::measure::Extent;
+use packet::measure::{Extent, Front};
 use show::{Hex, Optional, YesNo};
 use std::io;
 
@@ -27,32 +27,32 @@ fn addresses(rt: &impl Print, header: Header) -> io::Result<()> {
     println!(rt; "  target address    {}", Optional(header.target))
 }
 
-pub(crate) fn extent(rt: &impl Print, extent: Extent<'_, Crc16>) -> io::Result<()> {
-    let header = extent.header;
-    let size = extent.end.saturating_sub(header);
+pub(crate) fn extent(rt: &impl Print, extent: Extent) -> io::Result<()> {
+    let Extent { header, end } = extent;
+    let size = end.saturating_sub(header);
     println!(rt; "  header length     {header} bytes")?;
     println!(rt; "  size              {size} bytes: the message and its check")
 }
 
 // The message, and its check as it should be and as it is, where the data are all there.
-pub(crate) fn data(rt: &impl Print, extent: Extent<'_, Crc16>) -> io::Result<()> {
-    let Some(message) = extent.message() else {
+pub(crate) fn data(rt: &impl Print, front: &Front<'_, Crc16>) -> io::Result<()> {
+    let Some(message) = front.message() else {
         return Ok(());
     };
-    if extent.bytes.len() < extent.end {
+    let Extent { header, end } = front.extent;
+    if front.bytes.len() < end {
         return Ok(());
     }
     let computed = crc16_of(message).to_le_bytes();
     println!(rt;
-        "  message           {}, from byte {} on",
-        Hex(message),
-        extent.header
+        "  message           {}, from byte {header} on",
+        Hex(message)
     )?;
     println!(rt;
         "  check computed    {}, over the message alone",
         Hex(&computed)
     )?;
-    println!(rt; "  check found       {}", Hex(extent.found()))
+    println!(rt; "  check found       {}", Hex(front.found()))
 }
 
 pub(crate) fn accepted(rt: &impl Print) -> io::Result<()> {

@@ -3,3 +3,4 @@ pub mod Headers
 pub mod Moments
 pub mod Refusals
 pub mod Worked
+pub mod Printed

@@ -1,9 +1,9 @@
 -- Eight bytes and the fields of a time.
-use Rattle.std.proofs.Common.{◌≡◌, ℕ, zero, suc, ◌+◌, ◌*◌, ◌/◌, ◌%◌, ◌^◌, ◌<◌, ◌≤◌, cond, eqb, List, [], ◌∷◌, ◌++◌, length, get_or, drop, Some, None, Option, refl, ap, ◌∙◌, mod-eq_of_lt, add_comm, arith, drop-cons}
+use Rattle.std.proofs.Common.{◌≡◌, ℕ, zero, suc, ◌+◌, ◌*◌, ◌/◌, ◌%◌, ◌^◌, ◌<◌, cond, eqb, List, [], ◌∷◌, ◌++◌, length, get_or, drop, Some, None, Option, refl, ap, ◌∙◌, mod-eq_of_lt, add_comm, arith, drop-cons}
 use native.Mathlib.Nat.{div-add-mod}
 use Rattle.std.proofs.lemmas.List.{drop_all}
 use Rattle.value.specs.Times.{bits, layout, fields, no_date, no_clock, date_fields, clock_fields, written_time, LawfulDate, LawfulClock, IfThere, LawfulTime}
-use Rattle.basics.specs.Bits.{bit, present}
+use Rattle.basics.specs.Bits.{present}
 use Rattle.value.specs.Moments.{FitsBits}
 use Rattle.value.specs.declared.time.Clock.{Clock}
 use Rattle.value.specs.declared.time.Date.{Date}
@@ -20,57 +20,10 @@ drop_from (suc w) i xs e =
     let h : i < length xs = omega arith in
     drop-cons xs i 0 h ∙ ap (λ (t : List ℕ). get_or xs i 0 ∷ t) (drop_from w (suc i) xs (omega arith))
 
-pub flag_bit : (n : ℕ) → n < 2 → bit (eqb n 1) ≡ n
-flag_bit zero h = refl
-flag_bit (suc zero) h = refl
-flag_bit (suc (suc n)) h = absurd (omega arith)
-
 pub alike :
     {a0 a1 a2 a3 a4 a5 a6 a7 b0 b1 b2 b3 b4 b5 b6 b7 : ℕ} → a0 ≡ b0 → a1 ≡ b1 → a2 ≡ b2 → a3 ≡ b3 → a4 ≡ b4 → a5 ≡ b5 → a6 ≡ b6 → a7 ≡ b7
     → ◌≡◌ {A = List ℕ} (a0 ∷ a1 ∷ a2 ∷ a3 ∷ a4 ∷ a5 ∷ a6 ∷ a7 ∷ []) (b0 ∷ b1 ∷ b2 ∷ b3 ∷ b4 ∷ b5 ∷ b6 ∷ b7 ∷ [])
 alike e0 e1 e2 e3 e4 e5 e6 e7 = cc
-
--- each byte from the fields that are read from it and its neighbours
-pub byte_0 : (a b : ℕ) → a < 256 → a ≡ 4 * bits 5 0 (a / 4 + 64 * b) + 2 * (a / 2 % 2) + a % 2
-byte_0 a b h =
-    let low : bits 5 0 (a / 4 + 64 * b) ≡ a / 4 = omega arith in
-    let whole : a ≡ 4 * (a / 4) + 2 * (a / 2 % 2) + a % 2 = omega arith in
-    omega arith
-
-pub byte_1 : (a b : ℕ) → a < 256 → b < 256 → b ≡ bits 13 6 (a / 4 + 64 * b)
-byte_1 a b h k = omega arith
-
-pub byte_2 : (a b : ℕ) → a < 256 → a ≡ 16 * bits 3 0 (a / 16 + 16 * b) + bits 3 0 (a % 16)
-byte_2 a b h =
-    let low : bits 3 0 (a / 16 + 16 * b) ≡ a / 16 = omega arith in
-    omega arith
-
-pub byte_3 : (a b : ℕ) → a < 256 → b ≤ 1 → b ≡ bits 4 4 (a / 16 + 16 * b)
-byte_3 a b h k = omega arith
-
-pub byte_4 : (a b f : ℕ) → a < 256 → f % 4 ≡ a % 4 → a ≡ 128 * bits 0 0 (a / 128 + 2 * (b % 32)) + 4 * bits 4 0 (a / 4 % 32) + 2 * (f / 2 % 2) + f % 2
-byte_4 a b f h e =
-    let flags : a % 4 ≡ 2 * (f / 2 % 2) + f % 2 = omega arith in
-    let low : bits 0 0 (a / 128 + 2 * (b % 32)) ≡ a / 128 = omega arith in
-    let whole : a ≡ 128 * (a / 128) + 4 * (a / 4 % 32) + a % 4 = omega arith in
-    omega arith
-
-pub byte_5 : (a b c : ℕ) → a < 256 → b < 256 → b ≡ 32 * bits 2 0 (b / 32 + 8 * c) + bits 5 1 (a / 128 + 2 * (b % 32))
-byte_5 a b c h k =
-    let low : bits 2 0 (b / 32 + 8 * c) ≡ b / 32 = omega arith in
-    let high : bits 5 1 (a / 128 + 2 * (b % 32)) ≡ b % 32 = omega arith in
-    omega arith
-
-pub byte_6 : (a b c : ℕ) → a < 256 → b < 256 → b ≡ 8 * bits 4 0 (b / 8 + 32 * c) + bits 5 3 (a / 32 + 8 * (b % 8))
-byte_6 a b c h k =
-    let low : bits 4 0 (b / 8 + 32 * c) ≡ b / 8 = omega arith in
-    let high : bits 5 3 (a / 32 + 8 * (b % 8)) ≡ b % 8 = omega arith in
-    omega arith
-
-pub byte_7 : (a b : ℕ) → a < 256 → b < 256 → b ≡ 32 * bits 2 0 (b / 32) + bits 9 5 (a / 8 + 32 * (b % 32))
-byte_7 a b h k =
-    let high : bits 9 5 (a / 8 + 32 * (b % 32)) ≡ b % 32 = omega arith in
-    omega arith
 
 -- a field from its two parts, of j and of m bits' numbers
 joined : (j m n : ℕ) → n / j < m → n / 1 % j + j * (n / j % m) ≡ n

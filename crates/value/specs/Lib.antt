@@ -7,3 +7,4 @@ pub mod Values
 pub mod Readings
 pub mod Laws
 pub mod Examples
+pub mod Printing

@@ -1,4 +1,4 @@
-// Bytes written out, with what they are read as or refused with.
+// Bytes written out, with what they are read as or refused with. The statement is proved apart, as in `law`.
 ghost use Rattle.std.specs.Prelude.{◌≡◌, true};
 ghost use Rattle.value.specs.Examples.{Examples};
 

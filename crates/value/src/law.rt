@@ -1,4 +1,5 @@
-// What holds of all readings and writings of values.
+// What holds of all readings and writings of values. The statement is proved apart from the public call, so that an edit of
+// the call is refused in it.
 ghost use Rattle.std.specs.Prelude.{◌≡◌, true};
 ghost use Rattle.value.specs.Laws.{Laws};
 

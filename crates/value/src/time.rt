@@ -1,6 +1,7 @@
 // Dates and times of day.
-ghost use Rattle.std.specs.Prelude.{◌≡◌, ◌↔◌, IsTrue};
+ghost use Rattle.std.specs.Prelude.{◌≡◌, ◌↔◌, IsTrue, Some};
 ghost use Rattle.std.proofs.Common.{rules};
+ghost use Rattle.value.specs.Printing.{date_text, clock_text};
 ghost use Rattle.value.specs.Times.{no_date, no_clock, LawfulDate, LawfulClock};
 
 use std::fmt;
@@ -30,6 +31,9 @@ pub struct Time {
 
 // The date alone, as a year, a month and a day.
 impl fmt::Display for Date {
+    ghost output = { λ d. Some (date_text d) };
+
+    #[tactic(auto, using(crate::proofs::Printed::padded_digits, crate::proofs::Printed::joined))]
     fn fmt<W: fmt::Write>(&self, f: &mut fmt::Formatter<W>) -> fmt::Result {
         let Date {
             year,
@@ -42,6 +46,9 @@ impl fmt::Display for Date {
 }
 
 impl fmt::Display for Clock {
+    ghost output = { λ c. Some (clock_text c) };
+
+    #[tactic(auto, using(crate::proofs::Printed::padded_digits, crate::proofs::Printed::clock_joined))]
     fn fmt<W: fmt::Write>(&self, f: &mut fmt::Formatter<W>) -> fmt::Result {
         let Clock {
             hour,

@@ -1,6 +1,6 @@
 use Rattle.std.proofs.Common.{◌≡◌, ◌^◌, ◌<◌, sym, ap, ◌∙◌, subst, arith, take_all}
 use Rattle.basics.specs.Bytes.{Bytes}
-use Rattle.basics.proofs.Bytewise.{bytes_from_get_or}
+use Rattle.basics.proofs.Bytewise.{slice_bytes}
 use Rattle.checks.specs.Check.{fed}
 use Rattle.checks.proofs.check.register_of.Goals as goal
 
@@ -9,7 +9,7 @@ returns g c =
     let m = g.C.Check in
     let laws = g.met.C.Check in
     let bs = c.args.bytes.now in
-    let ok : Bytes bs = bytes_from_get_or bs (λ i h. let f = c.type_inv.bytes i in omega arith) in
+    let ok : Bytes bs = slice_bytes bs c.type_inv.bytes in
     let all = take_all c.loop-byte.byte-index bs c.loop-byte-test.false in
     let is : m.shows c.loop-byte.register ≡ m.meaning bs =
     ap m.shows (c.loop-byte.invariant ∙ ap (fed m.after m.empty) all) ∙ laws.feeding bs ok in

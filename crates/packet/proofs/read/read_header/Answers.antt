@@ -1,5 +1,5 @@
 use Rattle.std.proofs.Common.{refl, arith}
-use Rattle.basics.proofs.Bytewise.{bytes_from_get_or}
+use Rattle.basics.proofs.Bytewise.{slice_bytes}
 use Rattle.packet.proofs.Decoding.{Decoded, decoded_lawful, decoded_written}
 use Rattle.packet.proofs.read.read_header.Goals as goal
 
@@ -31,4 +31,4 @@ returns c =
       target_segment_at = c.optional-target_segment.ensures;
       target_address_at = c.optional-target.ensures;
     } in
-    record { bytes = bytes_from_get_or c.args.bytes.now (λ i h. let f = c.type_inv.bytes i in omega arith); lawful = decoded_lawful _ _ d; written = decoded_written _ _ d }
+    record { bytes = slice_bytes c.args.bytes.now c.type_inv.bytes; lawful = decoded_lawful _ _ d; written = decoded_written _ _ d }
