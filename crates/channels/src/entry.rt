@@ -30,6 +30,7 @@ pub struct Entry<'a> {
     pub value: Option<Value<'a>>,
 }
 
+// An impl of its own, as the structs of `device` have, since each names its own fields.
 impl<'a> Held<'a> for Detail {
     ghost fields = { number 2 ∷ number 1 ∷ number 1 ∷ [] };
 
