@@ -8,15 +8,9 @@ kit=$(dirname "$(rt doc)")
 out="$root/target/bench"
 bytes=${1:-200000}
 
-# The repository lists bench_abi as a library. The archive is built from a copy that lists it as a static library, outside
-# the repository, since the gate reads each source file in it.
-copy=$(mktemp -d)
-trap 'rm -rf "$copy"' EXIT
-cp -r "$root/crates" "$copy/"
-sed 's/^bench_abi:/bench_abi staticlib:/' "$root/crates.txt" >"$copy/crates.txt"
-(cd "$copy/crates/bench_abi" && rt lib >/dev/null)
+(cd "$root/crates/bench_abi" && rt lib >/dev/null)
 mkdir -p "$out"
-rustc -C opt-level=3 -L "$copy/crates/bench_abi/out" -C link-arg="$kit/c/libos_c.a" -C link-arg="$kit/c/liblibc_c.a" -o "$out/bench" "$here/bench.rs"
+rustc -C opt-level=3 -L "$root/crates/bench_abi/out" -C link-arg="$kit/c/libos_c.a" -C link-arg="$kit/c/liblibc_c.a" -o "$out/bench" "$here/bench.rs"
 
 count() {
     valgrind --tool=callgrind --callgrind-out-file="$out/callgrind.out" --toggle-collect="$2" "$out/bench" "$1" "$3" "$bytes" 2>"$out/log" >"$out/told.$1"

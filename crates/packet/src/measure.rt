@@ -64,27 +64,20 @@ impl<'a, C: Check> Front<'a, C> {
     }
 }
 
-// Reads the header as far as its size. What it refuses stands there, or the size is cut off; whether the data are there
-// and agree with their check is not looked at.
-pub fn measure<C: Check>(bytes: &[u8]) -> Result<Extent, Refusal<PacketFault>>
-    ensures { MatchResult result (λ x. Measured C.WIDTH bytes.now x.header x.end) (λ e. RefusedInHeader C.WIDTH C.meaning bytes.now e.fault e.place) }
-{
-    Ok(front_of::<C>(bytes)?.extent)
-}
-
-// Reads the header likewise, and keeps the bytes beside their extent.
+// Measures the bytes, and keeps them beside their extent.
 pub fn front_of<C: Check>(bytes: &[u8]) -> Result<Front<'_, C>, Refusal<PacketFault>>
     ensures { MatchResult result (λ f. f.bytes.now ≡ bytes.now) (λ e. RefusedInHeader C.WIDTH C.meaning bytes.now e.fault e.place) }
 {
     Ok(Front {
         bytes,
-        extent: extent_of::<C>(bytes)?,
+        extent: measure::<C>(bytes)?,
         check: PhantomData,
     })
 }
 
-// The extent that the header tells.
-fn extent_of<C: Check>(bytes: &[u8]) -> Result<Extent, Refusal<PacketFault>>
+// Reads the header as far as its size. What it refuses stands there, or the size is cut off; whether the data are there
+// and agree with their check is not looked at.
+pub fn measure<C: Check>(bytes: &[u8]) -> Result<Extent, Refusal<PacketFault>>
     ensures { MatchResult result (λ x. Measured C.WIDTH bytes.now x.header x.end) (λ e. RefusedInHeader C.WIDTH C.meaning bytes.now e.fault e.place) }
 {
     judge_start::<C>(bytes)?;

@@ -1,6 +1,6 @@
 -- Characters at the front of bytes.
-use Rattle.std.proofs.Common.{◌≡◌, ℕ, ◌<◌, ◌⊎◌, inl, inr, List, [], ◌∷◌, ◌++◌, length, Some, None, Option, MatchOption, Bor, sym, refl, ap, ◌∙◌, subst, arith, length-append, get_or, drop, cond, ltb, ◌≤◌}
-use Rattle.std.proofs.lemmas.List.{drop_at}
+use Rattle.std.proofs.Common.{◌≡◌, ℕ, ◌<◌, ◌⊎◌, inl, inr, List, [], ◌∷◌, ◌++◌, length, Some, None, Option, MatchOption, Bor, sym, refl, ap, ◌∙◌, subst, arith, length-append, get_or, take, drop, ◌-◌, cond, ltb, ◌≤◌}
+use Rattle.std.proofs.lemmas.List.{drop_at, take_all}
 use Rattle.std.proofs.lemmas.Bool.Decides.{nat_tests}
 use mathlib.Core.List.{head-eq_of_cons-eq, tail-eq_of_cons-eq}
 use Rattle.text.specs.Characters.{In, Tail, Second, One, Character, one, two, three, four}
@@ -20,11 +20,7 @@ ThreeAfter a = Then (TwoAfter a)
 abbrev pub FourAfter : ℕ → List ℕ → List ℕ → Type 0
 FourAfter a = Then (ThreeAfter a)
 
--- where nothing of the first kind stands, no more of it does
-absent_then : (R : List ℕ → List ℕ → Type 0) (xs : List ℕ) → Absent R xs → Absent (Then R) xs
-absent_then R xs none rest (zs, h, t) = none zs h
-
--- where one does and zs follow it, zs tell whether more of it does
+-- where xs begin as R tells, in one way, and zs follow, zs tell whether one more byte goes on with the character
 told_then : (R : List ℕ → List ℕ → Type 0) (xs zs : List ℕ) → R zs xs → ((us : List ℕ) → R us xs → us ≡ zs) → (o : Option (Bor (List ℕ))) → MatchOption o (Absent (ByteFirst Tail) zs) (λ rest. ByteFirst Tail rest.now zs) → MatchOption o (Absent (Then R) xs) (λ rest. Then R rest.now xs)
 told_then R xs zs h once None none = λ rest (us, g, t). none rest (subst (ByteFirst Tail rest) (once us g) t)
 told_then R xs zs h once (Some rest) t = (zs, h, t)
@@ -36,9 +32,6 @@ tested P xs (Some rest) (b, h, e) without with = (b, with b h, e)
 
 two_once : (a : ℕ) (r s xs : List ℕ) → TwoAfter a r xs → TwoAfter a s xs → s ≡ r
 two_once a r s xs (b, h, e) (c, g, f) = tail-eq_of_cons-eq (sym f ∙ e)
-
-three_once : (a : ℕ) (r s xs : List ℕ) → ThreeAfter a r xs → ThreeAfter a s xs → s ≡ r
-three_once a r s xs (us, h, (b, t, e)) (vs, g, (c, u, f)) = tail-eq_of_cons-eq (sym f ∙ two_once a us vs xs h g ∙ e)
 
 -- a is the first byte of a character, and the rest of it stands at the front of ys
 abbrev pub Led : ℕ → List ℕ → List ℕ → Type 0
@@ -65,7 +58,7 @@ module _ (a : ℕ) (ys xs : List ℕ) (e : xs ≡ a ∷ ys) where
   pub one_first : One a → CharacterFirst ys xs
   one_first l = record { first = a ∷ []; character = one l; bytes = e }
 
-  -- and with one of two, three or four bytes where these bytes follow a
+  -- and with one of two or three bytes where these bytes follow a
   pub two_told : In 0xC2 0xDF a → (o : Option (Bor (List ℕ))) → MatchOption o (Absent (TwoAfter a) ys) (λ rest. TwoAfter a rest.now ys) → MatchOption o (Absent CharacterFirst xs) (λ rest. CharacterFirst rest.now xs)
   two_told l None none = not_led (λ rest. elim [ inl h ↦ omega arith | inr (inl h) ↦ none rest h.1 | inr (inr (inl h)) ↦ omega arith | inr (inr (inr h)) ↦ omega arith ])
   two_told l (Some rest) (b, s, f) = record { first = a ∷ b ∷ []; character = two (l, s); bytes = e ∙ ap (λ (t : List ℕ). a ∷ t) f }
@@ -75,21 +68,17 @@ module _ (a : ℕ) (ys xs : List ℕ) (e : xs ≡ a ∷ ys) where
   three_told l (Some rest) (zs, (b, s, f), (c, t, g)) =
       record { first = a ∷ b ∷ c ∷ []; character = three (l, s, t); bytes = e ∙ ap (λ (t : List ℕ). a ∷ t) (f ∙ ap (λ (t : List ℕ). b ∷ t) g) }
 
-  four_told : In 0xF0 0xF4 a → (o : Option (Bor (List ℕ))) → MatchOption o (Absent (FourAfter a) ys) (λ rest. FourAfter a rest.now ys) → MatchOption o (Absent CharacterFirst xs) (λ rest. CharacterFirst rest.now xs)
-  four_told l None none = not_led (λ rest. elim [ inl h ↦ omega arith | inr (inl h) ↦ omega arith | inr (inr (inl h)) ↦ omega arith | inr (inr (inr h)) ↦ none rest h.1 ])
-  four_told l (Some rest) (zs, (us, (b, s, f), (c, t, g)), (d, u, h)) =
-      record { first = a ∷ b ∷ c ∷ d ∷ []; character = four (l, s, t, u); bytes = e ∙ ap (λ (t : List ℕ). a ∷ t) (f ∙ ap (λ (t : List ℕ). b ∷ t) (g ∙ ap (λ (t : List ℕ). c ∷ t) h)) }
-
-  -- where no third byte follows a
-  pub four_short : In 0xF0 0xF4 a → (zs : List ℕ) → TwoAfter a zs ys → Absent (ByteFirst Tail) zs → Absent CharacterFirst xs
-  four_short l zs h none = four_told l None (absent_then (ThreeAfter a) ys (told_then (TwoAfter a) ys zs h (λ us. two_once a zs us ys h) None none))
-
-  -- where they do, and zs follow them
+  -- where zs follow the second byte
   pub three_last : In 0xE0 0xEF a → (zs : List ℕ) → TwoAfter a zs ys → (o : Option (Bor (List ℕ))) → MatchOption o (Absent (ByteFirst Tail) zs) (λ rest. ByteFirst Tail rest.now zs) → MatchOption o (Absent CharacterFirst xs) (λ rest. CharacterFirst rest.now xs)
   three_last l zs h o t = three_told l o (told_then (TwoAfter a) ys zs h (λ us. two_once a zs us ys h) o t)
 
-  pub four_last : In 0xF0 0xF4 a → (us zs : List ℕ) → TwoAfter a us ys → ByteFirst Tail zs us → (o : Option (Bor (List ℕ))) → MatchOption o (Absent (ByteFirst Tail) zs) (λ rest. ByteFirst Tail rest.now zs) → MatchOption o (Absent CharacterFirst xs) (λ rest. CharacterFirst rest.now xs)
-  four_last l us zs h g o t = four_told l o (told_then (ThreeAfter a) ys zs (us, h, g) (λ vs. three_once a zs vs ys (us, h, g)) o t)
+-- a, then one that may stand after it, then two tails are a character of four bytes, and what is left of ys follows
+pub four_read : (a : ℕ) (ys xs : List ℕ) → xs ≡ a ∷ ys → In 0xF0 0xF4 a → 3 ≤ length ys → Second a (get_or ys 0 0) → Tail (get_or ys 1 0) → Tail (get_or ys 2 0) → CharacterFirst (take (length ys - 3) (drop 3 ys)) xs
+four_read a [] xs e l n s t u = absurd (omega arith)
+four_read a (b ∷ []) xs e l n s t u = absurd (omega arith)
+four_read a (b ∷ c ∷ []) xs e l n s t u = absurd (omega arith)
+four_read a (b ∷ c ∷ d ∷ zs) xs e l n s t u =
+    record { first = a ∷ b ∷ c ∷ d ∷ []; character = four (l, s, t, u); bytes = e ∙ ap (λ (v : List ℕ). a ∷ b ∷ c ∷ d ∷ v) (sym (take_all (length (b ∷ c ∷ d ∷ zs) - 3) zs (omega arith))) }
 
 -- no character has no bytes
 some_bytes : {c : List ℕ} → Character c → 0 < length c

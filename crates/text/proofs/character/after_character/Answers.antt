@@ -1,6 +1,6 @@
 use Rattle.std.proofs.Common.{arith, rules}
 use Rattle.text.specs.Characters.{Tail, Second}
-use Rattle.text.proofs.Characters.{tested, one_first, two_told, three_last, four_short, four_last}
+use Rattle.text.proofs.Characters.{tested, one_first, two_told, three_last, four_read}
 use Rattle.text.proofs.character.after_character.Goals as goal
 
 pub returns-in-0-to-127 : goal.returns-in-0-to-127
@@ -16,13 +16,5 @@ returns-in_ok-after_byte-in-224-to-239 c =
     three_last _ _ _ c.in_ok-lead.ensures.cases.0 (omega arith) _ (search rules) _
     (tested Tail _ _ c.after_byte-in-224-to-239-2.ensures (search rules) (search rules))
 
-pub returns-in_err-after_byte-in-240-to-244-2 : goal.returns-in_err-after_byte-in-240-to-244-2
-returns-in_err-after_byte-in-240-to-244-2 c =
-    rw c.from_residual-in_err-after_byte-in-240-to-244-2.ensures
-    (four_short _ _ _ c.in_ok-lead.ensures.cases.0 (omega arith) c.in_ok-after_byte-in-240-to-244.field-0.now (search rules)
-    (search rules))
-
-pub returns-in_ok-after_byte-in-240-to-244-2 : goal.returns-in_ok-after_byte-in-240-to-244-2
-returns-in_ok-after_byte-in-240-to-244-2 c =
-    four_last _ _ _ c.in_ok-lead.ensures.cases.0 (omega arith) c.in_ok-after_byte-in-240-to-244.field-0.now _ (search rules) (search rules) _
-    (tested Tail _ _ c.after_byte-in-240-to-244-3.ensures (search rules) (search rules))
+pub returns-in-len3-up : goal.returns-in-len3-up
+returns-in-len3-up c = four_read _ _ _ c.in_ok-lead.ensures.cases.0 (omega arith) (omega arith) (search rules) (search rules) (search rules)
