@@ -10,7 +10,8 @@ fn is_tail(byte: u8) -> bool
     matches!(byte, 0x80..=0xBF)
 }
 
-// Whether `second` may stand after `lead`.
+// Whether `second` may stand after `lead`. Inlined, so that each arm of `after_character` tests only what its leads may have.
+#[inline(always)]
 fn may_follow(lead: u8, second: u8) -> bool
     ensures { IsTrue result ↔ Second lead second }
 {
@@ -44,7 +45,7 @@ pub(crate) fn after_character(bytes: &[u8]) -> Option<&[u8]>
         0x00..=0x7F => Some(rest),
         0xC2..=0xDF => after_byte(follows, rest),
         0xE0..=0xEF => after_byte(is_tail, after_byte(follows, rest)?),
-        // By a pattern: of three calls of `after_byte` LLVM would keep one apart, and such texts would take a third more time.
+        // By a pattern: LLVM would keep a third call of `after_byte` apart, and such texts would take a third more instructions.
         0xF0..=0xF4 => match rest {
             [second, third, fourth, rest @ ..]
                 if may_follow(*lead, *second) && is_tail(*third) && is_tail(*fourth) => {
